@@ -1,0 +1,11 @@
+pub mod Gcd
+pub mod GcdLaws
+pub mod IntLaws
+pub mod Rational
+pub mod RationalLaws
+pub mod RationalOrder
+pub mod Absolute
+pub mod Whole
+pub mod Field
+pub mod Frac
+pub mod FracModel
