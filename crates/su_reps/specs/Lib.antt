@@ -1,0 +1,4 @@
+pub mod Tuples
+pub mod Operators
+pub mod Laws
+pub mod Entries
