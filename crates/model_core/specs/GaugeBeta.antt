@@ -1,0 +1,35 @@
+-- The beta functions of gauge couplings: M. E. Machacek and M. T. Vaughn, Nucl. Phys. B222 (1983) 83, with products of
+-- groups as in M. Luo, H. Wang and Y. Xiao, hep-ph/0211440. Fermions are left-handed two-component Weyl fields.
+use Rattle.std.specs.Prelude.{ℕ, ◌-◌, ◌*◌, pos, slice_get, unwrap_or}
+use Rattle.frac128.specs.Rational.{ℚ, whole, ◌-ℚ◌, ◌*ℚ◌, ◌/ℚ◌, neg_ℚ}
+use Rattle.su_reps.specs.declared.rep.Rep.{Rep}
+use Rattle.su_reps.specs.declared.rep.Rep.TheVariants.{Singlet}
+use Rattle.su_reps.specs.Operators.{casimir, fraction}
+use Rattle.model_core.specs.declared.group.Group.{Group}
+use Rattle.model_core.specs.declared.field.Field.{Field}
+use Rattle.model_core.specs.declared.model.Model.{Model}
+use Rattle.model_core.specs.Component.{Component, fermion_components, trace_over}
+
+-- the representation under the group at a place
+abbrev pub rep_at : Field → ℕ → Rep
+rep_at field place = unwrap_or (slice_get field.reps place) Singlet
+
+-- the quadratic Casimir of a component under the group at a place
+abbrev pub casimir_at : Group → ℕ → Component → ℚ
+casimir_at group place c = casimir (rep_at c.field place) group.n
+
+-- the quadratic Casimir of the group itself, and the number of its generators
+abbrev pub group_casimir : Group → ℚ
+group_casimir group = whole (pos group.n)
+
+abbrev pub generator_count : Group → ℚ
+generator_count group = whole (pos (group.n * group.n - 1))
+
+-- S_k(F): the trace of the fermions' Casimirs over the number of generators
+unfoldable pub fermion_sum : Model → ℕ → Group → ℚ
+fermion_sum model place group = trace_over model.groups (fermion_components model) (casimir_at group place) /ℚ generator_count group
+
+-- The coefficient of the cube of the coupling at one loop, without its factor 1/(16 pi^2):
+-- -(11/3 C_k - 2/3 S_k(F))
+unfoldable pub gauge_one_loop : Model → ℕ → Group → ℚ
+gauge_one_loop model place group = neg_ℚ (fraction 11 3 *ℚ group_casimir group -ℚ fraction 2 3 *ℚ fermion_sum model place group)

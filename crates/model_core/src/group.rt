@@ -1,0 +1,18 @@
+//! Gauge groups.
+use crate::name::{Latex, Name};
+use frac128::ItemList;
+
+/// A gauge group SU(n) with its gauge coupling. A group with n = 1 is the U(1).
+#[derive(Drop)]
+pub struct Group {
+    pub name: Name,
+    /// The dimension of the fundamental representation.
+    pub n: u32,
+    /// The name of the gauge coupling.
+    pub coupling: Name,
+    /// The gauge coupling in LaTeX.
+    pub latex: Latex,
+}
+
+/// Groups in file order.
+pub type GroupList = ItemList<Group>;

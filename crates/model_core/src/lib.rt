@@ -1,0 +1,27 @@
+//! What a model file stands for: groups, fields and models as types, and the definitions that every
+//! layer above cites.
+#![tactic(auto)]
+
+mod component;
+mod fault;
+mod field;
+mod format;
+mod group;
+mod inline;
+mod leg;
+mod model;
+mod name;
+#[cfg(test)]
+mod tests;
+mod valid;
+
+pub use component::{fermion_count, fermion_leg};
+pub use fault::{Part, ReadFault, ReadKind};
+pub use field::{Field, FieldList, RepList};
+pub use format::Format;
+pub use group::{Group, GroupList};
+pub use inline::InlineBytes;
+pub use leg::{Leg, Slots};
+pub use model::Model;
+pub use name::{BadName, Latex, Name, NameList};
+pub use valid::is_valid;

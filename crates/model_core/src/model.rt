@@ -1,0 +1,14 @@
+//! The model that a file stands for.
+use crate::field::FieldList;
+use crate::group::GroupList;
+use crate::name::Name;
+
+/// A gauge theory: its gauge groups and its fields. It grows with the forms that are read.
+#[derive(Drop)]
+pub struct Model {
+    /// The version of the file's format, 1.
+    pub profile: u32,
+    pub name: Name,
+    pub groups: GroupList,
+    pub fermions: FieldList,
+}

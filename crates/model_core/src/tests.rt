@@ -1,0 +1,125 @@
+//! Components of a model with two groups, and names, by values counted by hand.
+use crate::{
+    Field, FieldList, Group, GroupList, Leg, Model, Name, RepList, fermion_count, fermion_leg,
+    is_valid,
+};
+use frac128::Frac;
+use std::alloc::Global;
+use std::process::Abort;
+use std::test::Fail;
+use su_reps::Rep;
+
+fn name_of(rt: &impl Abort, text: &str) -> Name {
+    Name::new(text.as_bytes()).ok().expect(rt, "a name")
+}
+
+fn group_of(rt: &impl Abort, name: &str, n: u32, coupling: &str) -> Group {
+    let coupling = name_of(rt, coupling);
+    Group {
+        name: name_of(rt, name),
+        n,
+        latex: coupling.to_latex(),
+        coupling,
+    }
+}
+
+fn field_of(
+    rt: &impl Abort,
+    alloc: Global,
+    name: &str,
+    generations: u32,
+    first: Rep,
+    second: Rep,
+) -> Result<Field, Fail> {
+    let mut reps = RepList::new(alloc);
+    reps.push(first)?;
+    reps.push(second)?;
+    Ok(Field {
+        name: name_of(rt, name),
+        generations,
+        charge: Frac::zero(),
+        reps,
+        real: false,
+    })
+}
+
+// SU(2) and SU(3) with a doublet and triplet of two generations and an antitriplet of one.
+fn model_of(rt: &impl Abort, alloc: Global) -> Result<Model, Fail> {
+    let mut groups = GroupList::new(alloc);
+    groups.push(group_of(rt, "SU2", 2, "g2"))?;
+    groups.push(group_of(rt, "SU3", 3, "g3"))?;
+    let mut fermions = FieldList::new(alloc);
+    fermions.push(field_of(rt, alloc, "Q", 2, Rep::Fund, Rep::Fund)?)?;
+    fermions.push(field_of(rt, alloc, "u", 1, Rep::Singlet, Rep::Conj)?)?;
+    Ok(Model {
+        profile: 1,
+        name: name_of(rt, "M"),
+        groups,
+        fermions,
+    })
+}
+
+#[test]
+fn names(rt: HostRuntime) {
+    let rows: [(&[u8], bool); 10] = [
+        (b"g", true),
+        (b"SU3", true),
+        (b"a_1", true),
+        (b"abcdefghijklmnopqrstuvwx", true),
+        (b"abcdefghijklmnopqrstuvwxy", false),
+        (b"", false),
+        (b"1a", false),
+        (b"a-b", false),
+        (b"eps", false),
+        (b"conj", false),
+    ];
+    for (text, good) in rows {
+        assert_eq!(rt; Name::new(text).is_ok(), good);
+    }
+}
+
+// The printed generation and the slot values of the component at a place, as one number.
+fn digits_of(leg: &Leg) -> (u32, u64) {
+    match leg {
+        Leg::Fermion {
+            generation,
+            slots,
+            ..
+        } => {
+            let mut digits = 0u64;
+            for value in slots.as_slice() {
+                digits = digits.wrapping_mul(10).wrapping_add(u64::from(*value));
+            }
+            (*generation, digits)
+        }
+        _ => (99, 0),
+    }
+}
+
+#[test]
+fn components(rt: HostRuntime) -> Result<(), Fail> {
+    let model = model_of(&rt, rt.alloc())?;
+    assert!(rt; is_valid(rt.alloc(), &model)?);
+    assert_eq!(rt; fermion_count(&model), 15);
+    let rows: [(u32, (u32, u64)); 6] = [
+        (0, (1, 11)),
+        (2, (1, 13)),
+        (3, (1, 21)),
+        (7, (2, 12)),
+        (12, (0, 1)),
+        (14, (0, 3)),
+    ];
+    for (place, digits) in rows {
+        assert!(rt; place < fermion_count(&model));
+        assert_eq!(rt; digits_of(&fermion_leg(&model, place)), digits);
+    }
+    Ok(())
+}
+
+#[test]
+fn repeated_names(rt: HostRuntime) -> Result<(), Fail> {
+    let mut model = model_of(&rt, rt.alloc())?;
+    model.fermions.push(field_of(&rt, rt.alloc(), "g3", 1, Rep::Singlet, Rep::Fund)?)?;
+    assert!(rt; !is_valid(rt.alloc(), &model)?);
+    Ok(())
+}

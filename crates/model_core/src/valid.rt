@@ -1,0 +1,146 @@
+//! Which models are valid.
+ghost use Rattle.std.specs.Prelude.{◌≡◌, ◌∷◌, [], ◌++◌, false, true, length, map, IfOk};
+ghost use Rattle.std.specs.List.{flat_map, list_all, list_any};
+ghost use Rattle.std.specs.Str.{bytes_eq};
+ghost use Rattle.model_core.specs.Valid.{is_between, is_group, is_field, are_groups, are_fields, has_valid_parts, are_distinct, names_of, group_names, field_name, is_valid};
+
+use crate::component::component_count;
+use crate::field::Field;
+use crate::group::Group;
+use crate::model::Model;
+use crate::name::{Name, NameList};
+use std::alloc::{AllocError, Global};
+
+/// Whether a number is from `low` to `high`.
+fn is_between(low: usize, high: usize, number: usize) -> bool
+    ensures { result ≡ is_between low high number }
+{
+    low <= number && number <= high
+}
+
+/// Whether n is from 2 to 6.
+fn is_group(group: &Group) -> bool
+    ensures { result ≡ is_group group.now }
+{
+    is_between(2, 6, group.n as usize)
+}
+
+/// Whether each n is from 2 to 6.
+fn are_special(groups: &[Group]) -> bool
+    ensures { result ≡ list_all is_group groups.now }
+{
+    groups.iter().all(|group| is_group(group))
+}
+
+/// Whether there are 1 to 4 groups, each with an n from 2 to 6.
+fn are_groups(groups: &[Group]) -> bool
+    ensures { result ≡ are_groups groups.now }
+{
+    if !is_between(1, 4, groups.len()) {
+        return false;
+    }
+    are_special(groups)
+}
+
+/// Whether a field has 1 to 6 generations and a representation for each of so many groups.
+fn is_field(groups: usize, field: &Field) -> bool
+    ensures { result ≡ is_field groups field.now }
+{
+    if !is_between(1, 6, field.generations as usize) {
+        return false;
+    }
+    field.reps.len() == groups
+}
+
+/// Whether each field has 1 to 6 generations and a representation for each of so many groups.
+fn are_complete(groups: usize, fields: &[Field]) -> bool
+    ensures { result ≡ list_all (is_field groups) fields.now }
+{
+    fields.iter().all(|field| is_field(groups, field))
+}
+
+/// Whether there are at most 24 fields, each of them as it must be.
+fn are_fields(groups: usize, fields: &[Field]) -> bool
+    ensures { result ≡ are_fields groups fields.now }
+{
+    if fields.len() > 24 {
+        return false;
+    }
+    are_complete(groups, fields)
+}
+
+/// Whether the parts of a model meet their rules, and are few enough.
+fn has_valid_parts(model: &Model) -> bool
+    ensures { result ≡ has_valid_parts model.now }
+{
+    if !are_groups(model.groups.as_slice()) {
+        return false;
+    }
+    are_fields(model.groups.len(), model.fermions.as_slice())
+}
+
+/// The names of groups, couplings and fields, in file order.
+fn names_of(alloc: Global, model: &Model) -> Result<NameList, AllocError>
+    ensures { IfOk result (λ names. names ≡ names_of model.now) }
+{
+    let mut names = group_names(alloc, model.groups.as_slice())?;
+    push_field_names(&mut names, model.fermions.as_slice())?;
+    Ok(names)
+}
+
+/// The names of groups and of their couplings.
+fn group_names(alloc: Global, groups: &[Group]) -> Result<NameList, AllocError>
+    ensures { IfOk result (λ names. names ≡ flat_map group_names groups.now) }
+{
+    let mut names = NameList::new(alloc);
+    for group in groups {
+        names.push(group.name.copy())?;
+        names.push(group.coupling.copy())?;
+    }
+    Ok(names)
+}
+
+/// Adds the names of fields.
+fn push_field_names(names: &mut NameList, fields: &[Field]) -> Result<(), AllocError>
+    ensures { IfOk result (λ _. names.new ≡ names.old ++ map field_name fields.now) }
+{
+    for field in fields {
+        names.push(field.name.copy())?;
+    }
+    Ok(())
+}
+
+/// Whether a name stands among others.
+fn is_among(name: &Name, names: &[Name]) -> bool
+    ensures { result ≡ list_any (bytes_eq name.now) names.now }
+{
+    names
+        .iter()
+        .any(|other| name.as_bytes() == other.as_bytes())
+}
+
+/// Whether no name stands twice.
+fn are_distinct(names: &[Name]) -> bool
+    ensures { result ≡ are_distinct names.now }
+{
+    match names {
+        [] => true,
+        [name, names @ ..] => !is_among(name, names) && are_distinct(names),
+    }
+}
+
+/// Whether a model is valid: 1 to 4 groups SU(n) with n from 2 to 6; at most 24 fermion fields with 1 to 6 generations
+/// and a representation for each group; at most 512 fermion components; and distinct names of groups, couplings and
+/// fields. Only want of memory is an error.
+pub fn is_valid(alloc: Global, model: &Model) -> Result<bool, AllocError>
+    ensures { IfOk result (λ valid. valid ≡ is_valid model.now) }
+{
+    if !has_valid_parts(model) {
+        return Ok(false);
+    }
+    if component_count(model.groups.as_slice(), model.fermions.as_slice()) > 512 {
+        return Ok(false);
+    }
+    let names = names_of(alloc, model)?;
+    Ok(are_distinct(names.as_slice()))
+}
