@@ -1,0 +1,4 @@
+pub mod Documents
+pub mod Limits
+pub mod Members
+pub mod NoReps
