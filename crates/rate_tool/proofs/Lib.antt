@@ -1,0 +1,5 @@
+pub mod StreamLaws
+pub mod Pieces
+pub mod Numbers
+pub mod Dimensions
+pub mod Enumerated

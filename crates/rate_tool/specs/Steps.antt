@@ -1,0 +1,76 @@
+-- The steps of a run.
+use Rattle.std.specs.Prelude.{◌≡◌, ℕ, ◌≤◌, List, ◌++◌, length, Option, Result, Ok, Err, Vec}
+use Rattle.std.specs.declared.alloc.Global.{Global}
+use Rattle.model_core.specs.declared.fault.ReadFault.{ReadFault}
+use Rattle.rate_tool.specs.Stream.{Rose, Gave, IsEmptied, Took, TookFront}
+use Rattle.rate_tool.specs.Run.{answer_to, WasRead, WasTooLong}
+use Rattle.rate_tool.specs.declared.words.Command.{Command}
+use Rattle.rate_tool.specs.declared.run.Stop.{Stop}
+use Rattle.rate_tool.specs.declared.run.Stop.TheVariants as stop
+use Rattle.rate_tool.specs.declared.status.Status.{Status}
+use Rattle.rate_tool.specs.declared.status.Status.TheVariants as status
+
+-- What is told of the two streams before and after a call: the bytes left and taken, and the counts of faults.
+pub record Streams : Type 0 where
+  pub left : Option (List ℕ)
+  pub left' : Option (List ℕ)
+  pub taken : Option (List ℕ)
+  pub taken' : Option (List ℕ)
+  pub reads : ℕ
+  pub reads' : ℕ
+  pub writes : ℕ
+  pub writes' : ℕ
+
+-- what one piece adds to the bytes that were read
+pub record AddsPiece (left left' : Option (List ℕ)) (old new : List ℕ) (room count : ℕ) : Type 0 where
+  pub piece : List ℕ
+  pub gave : Gave left left' piece
+  pub added : new ≡ old ++ piece
+  pub counted : length piece ≡ count
+  pub within : count ≤ room
+  pub ended : count ≡ 0 → IsEmptied left'
+
+-- how the reading of one piece ends
+abbrev pub PieceEnds : Option (List ℕ) → Option (List ℕ) → List ℕ → List ℕ → ℕ → ℕ → ℕ → Result ℕ Stop → Type 0
+PieceEnds left left' old new room reads reads' (Ok count) = AddsPiece left left' old new room count × (reads' ≡ reads)
+PieceEnds left left' old new room reads reads' (Err stop.NoMemory) = reads' ≡ reads
+PieceEnds left left' old new room reads reads' (Err stop.ReadFault) = Rose reads reads'
+PieceEnds left left' old new room reads reads' (Err stop.TooLong) = ⊥
+
+-- how the reading of a whole source ends
+abbrev pub ReadEnds : Option (List ℕ) → Option (List ℕ) → ℕ → ℕ → Result (Vec ℕ Global) Stop → Type 0
+ReadEnds left left' reads reads' (Ok bytes) = WasRead left left' bytes.items × (reads' ≡ reads)
+ReadEnds left left' reads reads' (Err stop.NoMemory) = reads' ≡ reads
+ReadEnds left left' reads reads' (Err stop.ReadFault) = Rose reads reads'
+ReadEnds left left' reads reads' (Err stop.TooLong) = WasTooLong left left' × (reads' ≡ reads)
+
+-- a file was read whole, with no fault, and this is what the command answers to it
+pub record Answers (command : Command) (s : Streams) (answer : Result (List ℕ) ReadFault) : Type 0 where
+  pub file : List ℕ
+  pub read : WasRead s.left s.left' file
+  pub counted : s.reads' ≡ s.reads
+  pub answers : answer_to command file ≡ answer
+
+-- the whole answer was written
+pub record WritesWhole (command : Command) (s : Streams) : Type 0 where
+  pub text : List ℕ
+  pub answer : Answers command s (Ok text)
+  pub took : Took s.taken s.taken' text
+  pub counted : s.writes' ≡ s.writes
+
+-- a front of the answer was written
+pub record WritesFront (command : Command) (s : Streams) : Type 0 where
+  pub text : List ℕ
+  pub answer : Answers command s (Ok text)
+  pub took : TookFront s.taken s.taken' text
+  pub rose : Rose s.writes s.writes'
+
+-- how a command that reads a file ends, status by status
+abbrev pub FileEnds : Command → Streams → Status → Type 0
+FileEnds command s status.Done = WritesWhole command s
+FileEnds command s status.NoMemory = s.reads' ≡ s.reads
+FileEnds command s status.Usage = ⊥
+FileEnds command s status.ReadFault = Rose s.reads s.reads'
+FileEnds command s status.TooLong = WasTooLong s.left s.left' × (s.reads' ≡ s.reads)
+FileEnds command s (status.Malformed fault) = Answers command s (Err fault)
+FileEnds command s status.WriteFault = WritesFront command s

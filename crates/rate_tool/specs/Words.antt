@@ -1,0 +1,36 @@
+-- Which lists of words are commands.
+use Rattle.std.specs.Prelude.{ℕ, nat_le, ◌&&◌, if◌then◌else◌, List, [], ◌∷◌, map, Option, Some, None, option_map, option_and_then, codes, decimal}
+use Rattle.std.specs.Str.{bytes_eq}
+use Rattle.std.specs.Str.Parse.{digits_value}
+use Rattle.std.specs.Rc.{rc_str_bytes}
+use Rattle.std.specs.declared.rc.RcStr.{RcStr}
+use Rattle.std.specs.declared.alloc.Global.{Global}
+use Rattle.rate_tool.specs.declared.words.Command.{Command}
+use Rattle.rate_tool.specs.declared.words.Command.TheVariants.{Derive}
+
+-- the texts of words
+abbrev pub texts : List (RcStr Global) → List (List ℕ)
+texts words = map (λ (w : RcStr Global). rc_str_bytes w) words
+
+-- the number whose decimal digits the word is, without a sign or a leading zero
+abbrev pub number_of : List ℕ → Option ℕ
+number_of word = if bytes_eq word (decimal (digits_value 10 word)) then Some (digits_value 10 word) else None
+
+-- a number from low to high
+abbrev pub within : ℕ → ℕ → ℕ → Option ℕ
+within low high n = if nat_le low n && nat_le n high then Some n else None
+
+-- the number from low to high that a word stands for
+abbrev pub number_in : ℕ → ℕ → List ℕ → Option ℕ
+number_in low high word = option_and_then (within low high) (number_of word)
+
+-- `derive 1 text WORKERS`, with 1 to 64 workers
+abbrev pub derive_of : List ℕ → List ℕ → List ℕ → List ℕ → Option Command
+derive_of name loops format workers =
+    if (bytes_eq name (codes "derive") && bytes_eq loops (codes "1")) && bytes_eq format (codes "text") then option_map (λ n. Derive n) (number_in 1 64 workers)
+    else None
+
+-- the command that words are
+abbrev pub command_of : List (List ℕ) → Option Command
+command_of (name ∷ loops ∷ format ∷ workers ∷ []) = derive_of name loops format workers
+command_of _ = None

@@ -1,0 +1,173 @@
+//! The top call.
+ghost use Rattle.std.specs.Prelude.{◌≡◌, ◌↔◌, ◌<◌, ◌⊎◌, length, Err, IsNone, IfSome};
+ghost use Rattle.model_core.specs.declared.fault.ReadFault.{ReadFault};
+ghost use Rattle.model_reader.specs.Gives.{Gives};
+ghost use Rattle.rate_tool.specs.Stream.{Rose};
+ghost use Rattle.rate_tool.specs.Words.{command_of, texts};
+ghost use Rattle.rate_tool.specs.Run.{answer_to, due_status, IsDue, WasTooLong, HasAnswer, WroteAnswer, WroteFront, IsSilent};
+ghost use Rattle.rate_tool.specs.Steps.{PieceEnds, ReadEnds, FileEnds};
+
+use crate::gate::Gate;
+use crate::keeper::Keeper;
+use crate::lines::derive_first;
+use crate::print::print_first;
+use crate::status::Status;
+use crate::stream::{Sink, Source, write_all};
+use crate::words::{Command, command_of};
+use frac128::ByteList;
+use model_reader::ReadError;
+use std::alloc::Global;
+use std::rc::RcStr;
+use std::thread::Threads;
+
+/// The most bytes that a file may have.
+const LIMIT: usize = 1_048_576;
+
+/// The most bytes that one read asks for.
+const PIECE: usize = 4096;
+
+/// Why reading stopped before the end.
+#[derive(Clone, Copy, Debug)]
+enum Stop {
+    NoMemory,
+    ReadFault,
+    TooLong,
+}
+
+/// Reads one piece and puts it behind the bytes.
+fn read_piece<S: Source>(
+    source: &mut S,
+    piece: &mut [u8],
+    bytes: &mut Vec<u8>,
+) -> Result<usize, Stop>
+    requires { 0 < length piece.old }
+    ensures { PieceEnds (S.left source.old) (S.left source.new) bytes.old.items bytes.new.items (length piece.old)
+        (S.faults source.old) (S.faults source.new) result }
+{
+    match source.read(piece) {
+        Ok(count) => {
+            if bytes.extend_from_slice(&piece[..count]).is_err() {
+                return Err(Stop::NoMemory);
+            }
+            Ok(count)
+        }
+        Err(_) => Err(Stop::ReadFault),
+    }
+}
+
+/// Reads all the bytes, or one more than a file may have.
+fn read_all<S: Source>(alloc: Global, source: &mut S) -> Result<Vec<u8>, Stop>
+    ensures { ReadEnds (S.left source.old) (S.left source.new) (S.faults source.old) (S.faults source.new) result }
+{
+    let mut bytes = Vec::new(alloc);
+    let mut buf = [0u8; PIECE];
+    while bytes.len() <= LIMIT {
+        let room = (LIMIT + 1 - bytes.len()).min(PIECE);
+        match read_piece(source, &mut buf[..room], &mut bytes) {
+            Ok(0) => return Ok(bytes),
+            Ok(_) => {}
+            Err(stop) => return Err(stop),
+        }
+    }
+    Err(Stop::TooLong)
+}
+
+/// What a command answers to a file.
+fn answer_to(alloc: Global, command: Command, file: &[u8]) -> Result<ByteList, ReadError>
+    ensures { Gives (λ text. text) result (answer_to command file.now) }
+{
+    let Command::Derive { .. } = command;
+    let lines = derive_first(alloc, file)?;
+    let text = print_first(alloc, &lines)?;
+    Ok(text)
+}
+
+/// Reads the source's file and writes what the command answers to it.
+fn answer_file<S: Source, O: Sink>(
+    alloc: Global,
+    command: Command,
+    source: &mut S,
+    out: &mut O,
+) -> Status
+    ensures ended { FileEnds command (record {
+      left = S.left source.old;
+      left' = S.left source.new;
+      taken = O.taken out.old;
+      taken' = O.taken out.new;
+      reads = S.faults source.old;
+      reads' = S.faults source.new;
+      writes = O.faults out.old;
+      writes' = O.faults out.new;
+    }) result }
+    ensures silent { IsSilent result → out.new ≡ out.old }
+{
+    let bytes = match read_all(alloc, source) {
+        Ok(bytes) => bytes,
+        Err(Stop::NoMemory) => return Status::NoMemory,
+        Err(Stop::ReadFault) => return Status::ReadFault,
+        Err(Stop::TooLong) => return Status::TooLong,
+    };
+    let text = match answer_to(alloc, command, bytes.as_slice()) {
+        Ok(text) => text,
+        Err(ReadError::NoMemory) => return Status::NoMemory,
+        Err(ReadError::Fault(fault)) => return Status::Malformed(fault),
+    };
+    match write_all(out, text.as_slice()) {
+        Ok(()) => Status::Done,
+        Err(_) => Status::WriteFault,
+    }
+}
+
+/// Does all that the program does: runs the command that the words are, over a source, a sink and a
+/// keeper.
+///
+/// Content is said of a source that tells the bytes it has left, and of a sink that tells the bytes
+/// it has taken. Want of memory may be answered at any step before the first byte is written.
+pub fn run<R: Threads + Sync, S: Source, O: Sink, K: Keeper, G: Gate>(
+    _rt: &R,
+    alloc: Global,
+    words: &[RcStr],
+    source: &mut S,
+    out: &mut O,
+    keeper: &mut K,
+    _gate: &G,
+) -> Status
+    // The status is the one that is due to the words and the source's bytes, but for want of memory
+    // and faults of the streams.
+    ensures due { IfSome (S.left source.old) (λ bytes. IsDue (due_status (texts words.now) bytes) result) }
+
+    // Where no count of faults rose, it is that very status or `NoMemory`.
+    ensures complete { IfSome (S.left source.old) (λ bytes.
+        ¬ Rose (S.faults source.old) (S.faults source.new) → ¬ Rose (O.faults out.old) (O.faults out.new) →
+        (result ≡ due_status (texts words.now) bytes) ⊎ (result ≡ Status.NoMemory)) }
+
+    // Each status has its cause.
+    ensures usage { (result ≡ Status.Usage) ↔ IsNone (command_of (texts words.now)) }
+    ensures read_fault { result ≡ Status.ReadFault → Rose (S.faults source.old) (S.faults source.new) }
+    ensures too_long { result ≡ Status.TooLong → WasTooLong (S.left source.old) (S.left source.new) }
+    ensures malformed { (fault : ReadFault) → result ≡ Status.Malformed fault →
+        HasAnswer (texts words.now) (S.left source.old) (S.left source.new) (Err fault) }
+    ensures write_fault { result ≡ Status.WriteFault → Rose (O.faults out.old) (O.faults out.new) }
+
+    // After `Done` the whole answer was written, after `WriteFault` a front of it, and after every
+    // other status the sink is untouched. So is the source after `Usage`.
+    ensures done { result ≡ Status.Done →
+        WroteAnswer (texts words.now) (S.left source.old) (S.left source.new) (O.taken out.old) (O.taken out.new) }
+    ensures front { result ≡ Status.WriteFault →
+        WroteFront (texts words.now) (S.left source.old) (S.left source.new) (O.taken out.old) (O.taken out.new) }
+    ensures silent { IsSilent result → out.new ≡ out.old }
+    ensures unread { result ≡ Status.Usage → source.new ≡ source.old }
+
+    // No failed call is passed over.
+    ensures reads_noticed { S.faults source.old < S.faults source.new → result ≡ Status.ReadFault }
+    ensures writes_noticed { O.faults out.old < O.faults out.new → result ≡ Status.WriteFault }
+
+    // The keeper is untouched.
+    ensures kept { keeper.new ≡ keeper.old }
+{
+    let _ = keeper;
+    match command_of(words) {
+        Some(command) => answer_file(alloc, command, source, out),
+        None => Status::Usage,
+    }
+}

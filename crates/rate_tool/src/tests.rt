@@ -1,0 +1,196 @@
+//! Worked examples of `run` over objects in memory, and of the adapters.
+use crate::broken_keeper::BrokenKeeper;
+use crate::gate::NoGate;
+use crate::run::run;
+use crate::sinks::{MemorySink, SureSink};
+use crate::sources::{MemorySource, SureSource};
+use crate::status::Status;
+use crate::stream::{Sink, Source, write_all};
+use crate::streams::{Reading, Writing};
+use frac128::{ByteList, FailList};
+use std::alloc::{AllocError, Global};
+use std::rc::RcStr;
+use std::thread::Threads;
+
+/// The words of the one command.
+const DERIVE: &[&str] = &["derive", "1", "text", "1"];
+
+/// Pure SU(3).
+const FILE: &[u8] = b"profile = 1\nname = \"ym\"\ngroup = [{name=\"SU3\", n=3, coupling=\"g\"}]\n";
+
+/// Its one-loop beta function.
+const TEXT: &[u8] = b"model ym\nloops 1\nbeta1 g = -11*g^3\n";
+
+const NOT_TOML: &[u8] = b"malformed NotToml file 0 0 0\n";
+
+const UNBUILT: &[u8] = b"malformed Unbuilt file 0 0 0\n";
+
+/// Puts a piece a number of times behind the bytes.
+fn extend_by(bytes: &mut ByteList, piece: &[u8], count: u32) -> Result<(), AllocError> {
+    for _ in 0..count {
+        bytes.extend(piece)?;
+    }
+    Ok(())
+}
+
+/// The list of this one call.
+fn only_call(alloc: Global, number: u64) -> Result<FailList, AllocError> {
+    let mut fails = FailList::new(alloc);
+    fails.push(number)?;
+    Ok(fails)
+}
+
+/// Runs the words over a source and a sink, and gives the exit code and the sink of the status line.
+fn run_over<R: Threads + Sync, S: Source, O: Sink>(
+    rt: &R,
+    alloc: Global,
+    texts: &[&str],
+    source: &mut S,
+    out: &mut O,
+) -> Result<(u8, SureSink), AllocError> {
+    let mut words = Vec::new(alloc);
+    for text in texts {
+        words.push(RcStr::from_str(alloc, text)?)?;
+    }
+    let mut keeper = BrokenKeeper::new();
+    let status = run(
+        rt,
+        alloc,
+        words.as_slice(),
+        source,
+        out,
+        &mut keeper,
+        &NoGate,
+    );
+    let mut line = SureSink::new(alloc, 256)?;
+    let _ = status.write_line(&mut line);
+    Ok((status.code(), line))
+}
+
+#[test]
+fn words_and_files_have_their_answers(rt: HostRuntime) -> Result<(), AllocError> {
+    let alloc = rt.alloc();
+    let more: &[u8] =
+        b"profile = 1\nname = \"ym\"\ngroup = [{name=\"SU3\", n=3, coupling=\"g\"}]\nscalar = []\n";
+    let six_quarks: &[u8] =
+        b"profile = 1\nname = \"q6\"\ngroup = [{name=\"SU3\", n=3, coupling=\"g\"}]\nfermion = [{name=\"q\", generations=6, reps={SU3=\"fund\"}}, {name=\"qc\", generations=6, reps={SU3=\"conj\"}}]\n";
+    let two_doublets: &[u8] =
+        b"profile = 1\nname = \"witten\"\ngroup = [{name=\"SU2\", n=2, coupling=\"g\"}]\nfermion = [{name=\"D\", generations=2, reps={SU2=\"fund\"}}]\n";
+    let rows: [(&[&str], &[u8], u8, &[u8], &[u8]); 15] = [
+        (DERIVE, FILE, 0, TEXT, b""),
+        (
+            DERIVE,
+            six_quarks,
+            0,
+            b"model q6\nloops 1\nbeta1 g = -7*g^3\n",
+            b"",
+        ),
+        (
+            &["derive", "1", "text", "64"],
+            two_doublets,
+            0,
+            b"model witten\nloops 1\nbeta1 g = -20/3*g^3\n",
+            b"",
+        ),
+        (&["derive", "1", "text", "64"], FILE, 0, TEXT, b""),
+        (&[], FILE, 2, b"", b"usage\n"),
+        (&["derive", "3", "text", "1"], FILE, 2, b"", b"usage\n"),
+        (&["derive", "1", "text", "0"], FILE, 2, b"", b"usage\n"),
+        (&["derive", "1", "text", "65"], FILE, 2, b"", b"usage\n"),
+        (&["derive", "01", "text", "1"], FILE, 2, b"", b"usage\n"),
+        (&["derive", "1", "text", "01"], FILE, 2, b"", b"usage\n"),
+        (&["show", "ym", "0"], FILE, 2, b"", b"usage\n"),
+        (DERIVE, b"", 5, b"", UNBUILT),
+        (DERIVE, b"profile = ", 5, b"", NOT_TOML),
+        (DERIVE, b"\xff", 5, b"", NOT_TOML),
+        (DERIVE, more, 5, b"", UNBUILT),
+    ];
+    for (words, file, code, text, line) in rows {
+        let mut bytes = ByteList::new(alloc);
+        bytes.extend(file)?;
+        let mut out = SureSink::new(alloc, 256)?;
+        let (got, told) = run_over(&rt, alloc, words, &mut SureSource::new(bytes), &mut out)?;
+        assert_eq!(rt; got, code);
+        assert_eq!(rt; out.bytes().unwrap_or(b"lost"), text);
+        assert_eq!(rt; told.bytes().unwrap_or(b"lost"), line);
+    }
+    Ok(())
+}
+
+#[test]
+fn large_files_have_their_answers(rt: HostRuntime) -> Result<(), AllocError> {
+    let alloc = rt.alloc();
+    // The beginning, and two pieces, each as often as the number says.
+    let groups: &[u8] = b"[[group]]\nname=\"a\"\nn=2\ncoupling=\"b\"\n";
+    let rows: [(&[u8], &[u8], &[u8], u32, u8, &[u8]); 6] = [
+        (b"", b" ", b"", 1_048_577, 4, b"too long\n"),
+        (FILE, b"\n", b"", 1_048_510, 0, b""),
+        (b"a = ", b"[", b"", 5000, 5, NOT_TOML),
+        (b"a = ", b"[", b"]", 5000, 5, NOT_TOML),
+        (b"", b"[[group]]\n", b"", 30_000, 5, UNBUILT),
+        (
+            b"profile = 1\nname = \"many\"\n",
+            groups,
+            b"",
+            25_000,
+            5,
+            UNBUILT,
+        ),
+    ];
+    for (head, piece, closing, count, code, line) in rows {
+        let mut bytes = ByteList::new(alloc);
+        bytes.extend(head)?;
+        extend_by(&mut bytes, piece, count)?;
+        extend_by(&mut bytes, closing, count)?;
+        let mut out = SureSink::new(alloc, 256)?;
+        let (got, told) = run_over(&rt, alloc, DERIVE, &mut SureSource::new(bytes), &mut out)?;
+        assert_eq!(rt; got, code);
+        assert_eq!(rt; told.bytes().unwrap_or(b"lost"), line);
+    }
+    Ok(())
+}
+
+#[test]
+fn failed_reads_and_writes_are_noticed(rt: HostRuntime) -> Result<(), AllocError> {
+    let alloc = rt.alloc();
+    // The number of the read that fails, the sink's room, the number of the write that fails.
+    let rows: [(u64, u32, u64, u8, &[u8], &[u8]); 5] = [
+        (1, 256, 9, 3, b"", b"read fault\n"),
+        (2, 256, 9, 3, b"", b"read fault\n"),
+        (9, 10, 9, 12, b"model ym\nl", b"write fault\n"),
+        (9, 256, 1, 12, b"", b"write fault\n"),
+        (9, 256, 9, 0, TEXT, b""),
+    ];
+    for (read, room, write, code, text, line) in rows {
+        let mut bytes = ByteList::new(alloc);
+        bytes.extend(FILE)?;
+        let mut source = MemorySource::new(bytes, only_call(alloc, read)?);
+        let mut out = MemorySink::new(alloc, room, only_call(alloc, write)?)?;
+        let (got, told) = run_over(&rt, alloc, DERIVE, &mut source, &mut out)?;
+        assert_eq!(rt; got, code);
+        assert_eq!(rt; out.bytes(), text);
+        assert_eq!(rt; told.bytes().unwrap_or(b"lost"), line);
+    }
+    Ok(())
+}
+
+#[test]
+fn adapters_pass_bytes_on(rt: HostRuntime) -> Result<(), AllocError> {
+    let mut buf = [0u8; 8];
+    let mut reading = Reading::new(b"abc".as_slice());
+    assert_eq!(rt; reading.read(&mut buf), Ok(3));
+    assert_eq!(rt; &buf[..3], b"abc".as_slice());
+    assert_eq!(rt; reading.read(&mut buf), Ok(0));
+    let mut full = Writing::new(buf.as_mut_slice());
+    assert_eq!(rt;
+        write_all(&mut full, b"twelve bytes"),
+        Err(crate::stream::Failed)
+    );
+    assert_eq!(rt; full.faults(), 1);
+    assert_eq!(rt;
+        Status::Usage.write_line(&mut Writing::new(rt.stderr())),
+        Ok(())
+    );
+    assert_eq!(rt; write_all(&mut Writing::new(rt.stdout()), b"out\n"), Ok(()));
+    Ok(())
+}
