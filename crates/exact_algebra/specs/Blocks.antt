@@ -24,6 +24,7 @@ slice_get-map_some f (a ∷ xs) (suc i) x e = slice_get-map_some f xs i x e
 -- ---- blocks
 
 module _ {A B C : Type 0} (g : A → B → C) (ys : List B) where
+  -- g of each element of xs and each of ys, all of one x together
   abbrev pub blocks : List A → List C
   blocks xs = flat_map (λ x. map (g x) ys) xs
 

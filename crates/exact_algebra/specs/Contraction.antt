@@ -51,6 +51,7 @@ abbrev pub insert_var : ℕ → List ℕ → List ℕ
 insert_var i [] = i ∷ []
 insert_var i (j ∷ m) = cond (nat_le i j) (i ∷ j ∷ m) (j ∷ insert_var i m)
 
+-- the product of two products of numbers
 abbrev pub merge_vars : List ℕ → List ℕ → List ℕ
 merge_vars [] n = n
 merge_vars (i ∷ m) n = insert_var i (merge_vars m n)
@@ -59,10 +60,12 @@ merge_vars (i ∷ m) n = insert_var i (merge_vars m n)
 abbrev pub pair_le : ℕ × ℕ → ℕ × ℕ → Bool
 pair_le d e = cond (nat_eq d.0 e.0) (nat_le d.1 e.1) (nat_le d.0 e.0)
 
+-- a delta put into a product of deltas, in order
 abbrev pub insert_delta : ℕ × ℕ → Deltas → Deltas
 insert_delta d [] = d ∷ []
 insert_delta d (e ∷ m) = cond (pair_le d e) (d ∷ e ∷ m) (e ∷ insert_delta d m)
 
+-- the product of two products of deltas
 abbrev pub merge_deltas : Deltas → Deltas → Deltas
 merge_deltas [] n = n
 merge_deltas (d ∷ m) n = insert_delta d (merge_deltas m n)
@@ -71,6 +74,7 @@ merge_deltas (d ∷ m) n = insert_delta d (merge_deltas m n)
 abbrev pub ordered : ℕ × ℕ → ℕ × ℕ
 ordered d = cond (nat_le d.0 d.1) d (d.1, d.0)
 
+-- one delta more, in order, and none of an index with itself
 abbrev pub put_delta : ℕ × ℕ → Deltas → Deltas
 put_delta d m = cond (nat_eq d.0 d.1) m (insert_delta (ordered d) m)
 
@@ -85,6 +89,7 @@ same_sign true s = s
 same_sign false true = false
 same_sign false false = true
 
+-- the sign of the opposite
 abbrev pub other_sign : Bool → Bool
 other_sign true = false
 other_sign false = true
@@ -103,10 +108,12 @@ part s l vs ds = record { plus = s; up = l.0; down = l.1; vars = vs; deltas = ds
 abbrev pub times_part : Part → Part → Part
 times_part p q = part (same_sign p.plus q.plus) (level (p.up + q.up) (p.down + q.down)) (merge_vars p.vars q.vars) (merge_deltas p.deltas q.deltas)
 
+-- the product of a part and a sum
 abbrev pub scale : Part → List Part → List Part
 scale s [] = []
 scale s (t ∷ p) = times_part s t ∷ scale s p
 
+-- the product of two sums
 abbrev pub product : List Part → List Part → List Part
 product [] q = []
 product (s ∷ p) q = scale s q ++ product p q
@@ -120,6 +127,7 @@ negated (s ∷ p) = part (other_sign s.plus) (s.up, s.down) s.vars s.deltas ∷ 
 abbrev pub renamed : ℕ → ℕ → ℕ → ℕ
 renamed i j k = cond (nat_eq k i) j k
 
+-- deltas with an index under a new name
 abbrev pub rename : ℕ → ℕ → Deltas → Deltas
 rename i j [] = []
 rename i j (d ∷ m) = (renamed i j d.0, renamed i j d.1) ∷ rename i j m
@@ -131,6 +139,7 @@ choose true false i d m r = (false, rename i d.1 m)
 choose false true i d m r = (false, rename i d.0 m)
 choose false false i d m r = (r.0, d ∷ r.1)
 
+-- whether i is free in the deltas, and the deltas after summing over i
 abbrev pub contract : ℕ → Deltas → Bool × Deltas
 contract i [] = (true, [])
 contract i (d ∷ m) = choose (nat_eq d.0 i) (nat_eq d.1 i) i d m (contract i m)
@@ -142,15 +151,18 @@ same_numbers [] (j ∷ n) = false
 same_numbers (i ∷ m) [] = false
 same_numbers (i ∷ m) (j ∷ n) = nat_eq i j && same_numbers m n
 
+-- whether two products of deltas are one
 abbrev pub same_deltas : Deltas → Deltas → Bool
 same_deltas [] [] = true
 same_deltas [] (j ∷ n) = false
 same_deltas (i ∷ m) [] = false
 same_deltas (i ∷ m) (j ∷ n) = (nat_eq i.0 j.0 && nat_eq i.1 j.1) && same_deltas m n
 
+-- whether two parts are one but for the sign
 abbrev pub same_part : Part → Part → Bool
 same_part s t = (nat_eq s.up t.up && nat_eq s.down t.down) && (same_numbers s.vars t.vars && same_deltas s.deltas t.deltas)
 
+-- whether two parts add up to 0
 abbrev pub cancels : Part → Part → Bool
 cancels s t = cond (same_sign s.plus t.plus) false (same_part s t)
 
@@ -303,9 +315,11 @@ module _ (C : CommutativeRing) (G : Range C) (fixed : ℕ) (numbers : List C.sem
   vanishes [] = false
   vanishes (d ∷ m) = is_apart d || vanishes m
 
+  -- a part with its deltas in order, none where it is 0
   abbrev pub tidied : Part → List Part
   tidied p = cond (vanishes p.deltas) [] (part p.plus (p.up, p.down) p.vars (sorted p.deltas) ∷ [])
 
+  -- a part after summing over an index: n times as much where the index is free
   abbrev pub counted_part : Part → Bool × Deltas → List Part
   counted_part p r = tidied (part p.plus (cond r.0 (level (suc p.up) p.down) (p.up, p.down)) p.vars r.1)
 
@@ -328,30 +342,37 @@ module _ (C : CommutativeRing) (G : Range C) (fixed : ℕ) (numbers : List C.sem
   expand (over i s) = sum_out i (expand s)
 
   -- ---- what the names stand for
+  -- names that fit: within the range, and the fixed ones apart
   record Fits (names : ℕ → ℕ) : Type 0 where
     low : (k : ℕ) → 1 ≤ names k
     high : (k : ℕ) → names k ≤ G.size
     apart : (i j : ℕ) → is_apart (i, j) ≡ true → nat_eq (names i) (names j) ≡ false
 
+  -- x to the power k
   abbrev pub power : carrier → ℕ → carrier
   power x zero = 𝟙
   power x (suc k) = x ⊠ power x k
 
+  -- 1 or -1
   abbrev pub with_sign : Bool → carrier
   with_sign true = 𝟙
   with_sign false = C.neg 𝟙
 
+  -- the value of a product of numbers
   abbrev pub of_vars : List ℕ → carrier
   of_vars [] = 𝟙
   of_vars (i ∷ m) = at C numbers i ⊠ of_vars m
 
+  -- the value of a product of deltas
   abbrev pub of_deltas : (ℕ → ℕ) → Deltas → carrier
   of_deltas names [] = 𝟙
   of_deltas names (d ∷ m) = kronecker C (names d.0) (names d.1) ⊠ of_deltas names m
 
+  -- the value of a part
   abbrev pub of_part : (ℕ → ℕ) → Part → carrier
   of_part names p = with_sign p.plus ⊠ (((power G.count p.up ⊠ power G.share p.down) ⊠ of_vars p.vars) ⊠ of_deltas names p.deltas)
 
+  -- the value of a sum of parts
   abbrev pub of_sum : (ℕ → ℕ) → List Part → carrier
   of_sum names [] = 𝟘
   of_sum names (p ∷ ps) = of_part names p ⊞ of_sum names ps
@@ -390,6 +411,7 @@ module _ (C : CommutativeRing) (G : Range C) (fixed : ℕ) (numbers : List C.sem
   of-merge_vars [] n = sym (one_mul C.semiring (of_vars n))
   of-merge_vars (i ∷ m) n = of-insert_var i (merge_vars m n) ∙ ap (λ k. at C numbers i ⊠ k) (of-merge_vars m n) ∙ sym (C.semiring.mul_assoc (at C numbers i) (of_vars m) (of_vars n))
 
+  -- the value of a delta
   abbrev pub of_delta : (ℕ → ℕ) → ℕ × ℕ → carrier
   of_delta names d = kronecker C (names d.0) (names d.1)
 
@@ -485,6 +507,7 @@ module _ (C : CommutativeRing) (G : Range C) (fixed : ℕ) (numbers : List C.sem
   abbrev pub factor : Bool → carrier
   factor b = cond b G.count 𝟙
 
+  -- a sum over i has this value
   IsSum : (ℕ → ℕ) → ℕ → Deltas → Bool × Deltas → Type 0
   IsSum names i m r = total C G.size (λ a. of_deltas (set_index i a names) m) ≡ factor r.0 ⊠ of_deltas names r.1
 
@@ -599,6 +622,7 @@ module _ (C : CommutativeRing) (G : Range C) (fixed : ℕ) (numbers : List C.sem
       let heads = and_parts (nat_eq i.0 j.0) (nat_eq i.1 j.1) parts.0 in
       ap₂ ◌∷◌ (λ k. (eqb-true i.0 j.0 heads.0 k, eqb-true i.1 j.1 heads.1 k)) (same_deltas-true m n parts.1)
 
+  -- the value of a part but for its sign
   abbrev pub body : (ℕ → ℕ) → Part → carrier
   body names p = ((power G.count p.up ⊠ power G.share p.down) ⊠ of_vars p.vars) ⊠ of_deltas names p.deltas
 

@@ -1,10 +1,43 @@
--- Commutative semirings with cancellation (the natural numbers, the fractions, the polynomials), commutative rings over
--- them, and the laws that follow.
+-- Commutative monoids, commutative semirings with cancellation (the natural numbers, the fractions, the polynomials) and
+-- commutative rings, the laws that follow, and the maps that respect them.
 --
--- This is the one hierarchy of rings: sums are over a `Semiring`, the two solvers work in a `CommutativeRing`, and a
--- new ring is made by `ring_of` from the laws that one proves of it, `RingLaws`.
+-- This is the one hierarchy: a `CommutativeRing` is a `Semiring` with negation, and a `Semiring` has two monoids, `additive`
+-- and `multiplicative`. Finite sums are over a monoid or a semiring, the two solvers work in a ring, and a new ring is made
+-- by `ring_of` from the laws that one proves of it, `RingLaws`.
 use Rattle.std.specs.Prelude.{◌≡◌, Bool, true}
 use Rattle.std.proofs.Common.{sym, ap, ◌∙◌}
+
+-- a set with a product of two that has a unit and doesn't see the order
+pub record CommutativeMonoid : Type 1 where
+  pub carrier : Type 0
+  pub unit : carrier
+  pub times : carrier → carrier → carrier
+  pub times_assoc : (a b c : carrier) → times (times a b) c ≡ times a (times b c)
+  pub times_comm : (a b : carrier) → times a b ≡ times b a
+  pub times_unit : (a : carrier) → times a unit ≡ a
+
+-- a map that respects unit and product
+pub record IsMonoidMap (M N : CommutativeMonoid) (h : M.carrier → N.carrier) : Type 0 where
+  pub at_unit : h M.unit ≡ N.unit
+  pub at_times : (a b : M.carrier) → h (M.times a b) ≡ N.times (h a) (h b)
+
+module _ (M : CommutativeMonoid) where
+  open M use {carrier, unit, times as ◌⊙◌}
+
+  infixl 6 ◌⊙◌
+  pub unit_times : (a : carrier) → unit ⊙ a ≡ a
+  unit_times a = M.times_comm unit a ∙ M.times_unit a
+
+  pub times_left_comm : (a b c : carrier) → a ⊙ (b ⊙ c) ≡ b ⊙ (a ⊙ c)
+  times_left_comm a b c = sym (M.times_assoc a b c) ∙ ap (λ x. x ⊙ c) (M.times_comm a b) ∙ M.times_assoc b a c
+
+  pub times_times_comm : (a b c d : carrier) → (a ⊙ b) ⊙ (c ⊙ d) ≡ (a ⊙ c) ⊙ (b ⊙ d)
+  times_times_comm a b c d = simp (M.times_assoc, times_left_comm)
+
+-- an involution that respects products leaves the unit alone
+pub involution_map : (M : CommutativeMonoid) (h : M.carrier → M.carrier) → ((a : M.carrier) → h (h a) ≡ a) → ((a b : M.carrier) → h (M.times a b) ≡ M.times (h a) (h b)) → IsMonoidMap M M h
+involution_map M h back respects =
+    record { at_unit = sym (M.times_unit (h M.unit)) ∙ ap (M.times (h M.unit)) (sym (back M.unit)) ∙ sym (respects M.unit (h M.unit)) ∙ ap h (unit_times M (h M.unit)) ∙ back M.unit; at_times = respects }
 
 -- a commutative semiring in which a + b = a + c only where b = c
 pub record Semiring : Type 1 where
@@ -35,31 +68,92 @@ pub record CommutativeRing : Type 1 where
   pub neg : semiring.carrier → semiring.carrier
   pub add_neg : (a : semiring.carrier) → semiring.add a (neg a) ≡ semiring.zero
 
+-- the numbers of a semiring under addition
+abbrev pub additive : Semiring → CommutativeMonoid
+additive R = record {
+  carrier = R.carrier;
+  unit = R.zero;
+  times = R.add;
+  times_assoc = R.add_assoc;
+  times_comm = R.add_comm;
+  times_unit = R.add_zero;
+}
+
+-- the numbers of a semiring under multiplication
+abbrev pub multiplicative : Semiring → CommutativeMonoid
+multiplicative R = record {
+  carrier = R.carrier;
+  unit = R.one;
+  times = R.mul;
+  times_assoc = R.mul_assoc;
+  times_comm = R.mul_comm;
+  times_unit = R.mul_one;
+}
+
+-- a map that respects 0, 1, sums and products
+pub record IsSemiringMap (R S : Semiring) (h : R.carrier → S.carrier) : Type 0 where
+  pub at_zero : h R.zero ≡ S.zero
+  pub at_one : h R.one ≡ S.one
+  pub at_add : (a b : R.carrier) → h (R.add a b) ≡ S.add (h a) (h b)
+  pub at_mul : (a b : R.carrier) → h (R.mul a b) ≡ S.mul (h a) (h b)
+
+-- it is a map of the monoids under addition
+pub map_additive : (R S : Semiring) (h : R.carrier → S.carrier) → IsSemiringMap R S h → IsMonoidMap (additive R) (additive S) h
+map_additive R S h m = record { at_unit = m.at_zero; at_times = m.at_add }
+
+-- and of those under multiplication
+pub map_multiplicative : (R S : Semiring) (h : R.carrier → S.carrier) → IsSemiringMap R S h → IsMonoidMap (multiplicative R) (multiplicative S) h
+map_multiplicative R S h m = record { at_unit = m.at_one; at_times = m.at_mul }
+
+-- between rings it respects negation too
+pub map_neg : (A B : CommutativeRing) (h : A.semiring.carrier → B.semiring.carrier) → IsSemiringMap A.semiring B.semiring h → (a : A.semiring.carrier) → h (A.neg a) ≡ B.neg (h a)
+map_neg A B h m a =
+    B.semiring.add_cancel (h a) (h (A.neg a)) (B.neg (h a))
+    (sym (m.at_add a (A.neg a)) ∙ ap h (A.add_neg a) ∙ m.at_zero ∙ sym (B.add_neg (h a)))
+
 module _ (R : Semiring) where
   open R use {carrier, zero, one, add as ◌⊕◌, mul as ◌⊗◌}
 
   infixl 6 ◌⊕◌
   infixl 7 ◌⊗◌
   pub zero_add : (a : carrier) → zero ⊕ a ≡ a
-  zero_add a = R.add_comm zero a ∙ R.add_zero a
+  zero_add = unit_times (additive R)
 
   pub add_left_comm : (a b c : carrier) → a ⊕ (b ⊕ c) ≡ b ⊕ (a ⊕ c)
-  add_left_comm a b c = sym (R.add_assoc a b c) ∙ ap (λ x. x ⊕ c) (R.add_comm a b) ∙ R.add_assoc b a c
+  add_left_comm = times_left_comm (additive R)
 
   pub add_add_comm : (a b c d : carrier) → (a ⊕ b) ⊕ (c ⊕ d) ≡ (a ⊕ c) ⊕ (b ⊕ d)
-  add_add_comm a b c d = simp (R.add_assoc, add_left_comm)
+  add_add_comm = times_times_comm (additive R)
 
   pub mul_left_comm : (a b c : carrier) → a ⊗ (b ⊗ c) ≡ b ⊗ (a ⊗ c)
-  mul_left_comm a b c = sym (R.mul_assoc a b c) ∙ ap (λ x. x ⊗ c) (R.mul_comm a b) ∙ R.mul_assoc b a c
+  mul_left_comm = times_left_comm (multiplicative R)
 
   pub one_mul : (a : carrier) → one ⊗ a ≡ a
-  one_mul a = R.mul_comm one a ∙ R.mul_one a
+  one_mul = unit_times (multiplicative R)
 
   pub add_mul : (a b c : carrier) → (a ⊕ b) ⊗ c ≡ (a ⊗ c) ⊕ (b ⊗ c)
   add_mul a b c = simp (R.mul_comm, R.mul_add)
 
   pub zero_mul : (a : carrier) → zero ⊗ a ≡ zero
   zero_mul a = R.mul_comm zero a ∙ R.mul_zero a
+
+-- numbers of a semiring as factors of a commutative monoid written as a sum: (c + d) m = c m + d m and 0 m = 0
+pub record Action (R : Semiring) (M : CommutativeMonoid) : Type 0 where
+  pub act : R.carrier → M.carrier → M.carrier
+  pub act_add : (c d : R.carrier) (m : M.carrier) → act (R.add c d) m ≡ M.times (act c m) (act d m)
+  pub act_zero : (m : M.carrier) → act R.zero m ≡ M.unit
+
+-- the numbers of R as factors of the numbers of S, by a map of semirings
+abbrev pub along : (R S : Semiring) (h : R.carrier → S.carrier) → IsSemiringMap R S h → Action R (additive S)
+along R S h m = record {
+  act = λ c s. S.mul (h c) s;
+  act_add = λ c d s. ap (λ k. S.mul k s) (m.at_add c d) ∙ add_mul S (h c) (h d) s;
+  act_zero = λ s. ap (λ k. S.mul k s) m.at_zero ∙ zero_mul S s;
+}
+
+-- the numbers of a semiring as factors of themselves
+abbrev pub regular : (R : Semiring) → Action R (additive R)
+regular R = record { act = R.mul; act_add = add_mul R; act_zero = zero_mul R }
 
 -- the laws of a commutative ring as one proves them: cancellation and a * 0 = 0 follow
 pub record RingLaws : Type 1 where

@@ -2,6 +2,7 @@
 use Rattle.std.proofs.Common.{◌≡◌, suc, ◌-◌, ◌≤◌, List, [], ◌∷◌, length, take, drop, get_or, sym, ap, ◌∙◌, arith}
 use Rattle.std.proofs.Math.Seq.{take-length}
 
+-- all but the first element
 abbrev pub tail : {A : Type 0} → List A → List A
 tail xs = take (length xs - 1) (drop 1 xs)
 

@@ -40,6 +40,7 @@ same_sign true s = s
 same_sign false true = false
 same_sign false false = true
 
+-- the sign of the opposite
 abbrev other_sign : Bool → Bool
 other_sign true = false
 other_sign false = true
@@ -68,6 +69,7 @@ expand (s ⊕ t) = expand s ++ expand t
 expand (s ⊗ t) = product (expand s) (expand t)
 expand (opposite s) = negated (expand s)
 
+-- whether two products are one
 abbrev same_numbers : List ℕ → List ℕ → Bool
 same_numbers [] [] = true
 same_numbers [] (j ∷ n) = false
@@ -168,14 +170,17 @@ module _ (C : CommutativeRing) where
   minus-times a b = C.semiring.mul_comm (C.neg a) b ∙ times-minus b a ∙ ap C.neg (C.semiring.mul_comm b a)
 
   -- ---- what the lists stand for
+  -- the value of a product
   abbrev of_product : List C.semiring.carrier → List ℕ → C.semiring.carrier
   of_product xs [] = C.semiring.one
   of_product xs (i ∷ m) = C.semiring.mul (at xs i) (of_product xs m)
 
+  -- a value or its opposite
   abbrev with_sign : Bool → C.semiring.carrier → C.semiring.carrier
   with_sign true a = a
   with_sign false a = C.neg a
 
+  -- the value of a sum of products
   abbrev of_sum : List C.semiring.carrier → List Signed → C.semiring.carrier
   of_sum xs [] = C.semiring.zero
   of_sum xs (s ∷ p) = C.semiring.add (with_sign s.0 (of_product xs s.1)) (of_sum xs p)
