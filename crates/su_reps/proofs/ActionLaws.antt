@@ -3,12 +3,12 @@ use Rattle.std.proofs.Common.{◌≡◌, ℕ, ◌≤◌, refl, sym, ◌∙◌, a
 use Rattle.exact_algebra.specs.Contraction.{Expr}
 use Rattle.exact_algebra.specs.Contraction.Expr.{nought, share, ◌⊕◌, ◌⊗◌, opposite, over}
 use Rattle.exact_algebra.specs.Contraction.Expr.{delta as x_delta}
-use Rattle.frac128.specs.Rational.{◌*ℚ◌}
+use Rattle.frac128.specs.Rational.{zero_ℚ, ◌*ℚ◌}
 use Rattle.su_reps.specs.declared.rep.Rep.{Rep}
 use Rattle.su_reps.specs.declared.rep.Rep.TheVariants.{Singlet, Fund, Conj, Adjoint, Sym2, Sym2Conj, Anti2, Anti2Conj}
 use Rattle.su_reps.specs.Tuples.{AreValues}
-use Rattle.su_reps.specs.Operators.{product, P, X}
-use Rattle.su_reps.specs.Laws.{AtPairs, Commutators, Transpose, Diagonal, conjugate, partner, Conjugate, ConjugateProjector, NoTrace, pair_number, PairTrace}
+use Rattle.su_reps.specs.Operators.{product, P, X, over_values}
+use Rattle.su_reps.specs.Laws.{AtPairs, Commutators, Transpose, Diagonal, conjugate, partner, Conjugate, ConjugateProjector, NoTrace, pair_number, PairTrace, Traceless, TracelessAction, ProjectedAction}
 use Rattle.su_reps.proofs.Shapes.{x_p, x_q, x_at, x_transposed, x_product, x_trace, x_P, x_X, x_index_trace, x_doubled_index}
 use Rattle.su_reps.proofs.Solve.{at_pairs, solved, solved_pair, solved_alone, solved_number}
 
@@ -128,6 +128,13 @@ pair_trace_law Anti2Conj n h i j l m u =
     solved n (omega arith) 0 (pair_trace Anti2Conj) (x_doubled_index Anti2Conj ⊗ x_pair_number) refl refl i j l m u
     ∙ ap (λ k. k *ℚ pair_number n i j l m) (sym (solved_number n (omega arith) 2 h (x_index_trace Anti2Conj) (x_doubled_index Anti2Conj) refl refl))
 
--- ---- a generator leaves nothing outside of the adjoint's projector
-pub adjoint_action : (n : ℕ) → 1 ≤ n → (i j : ℕ) → AreValues n (i ∷ j ∷ []) → AtPairs Adjoint n (λ p q. product Adjoint n (P Adjoint n) (X Adjoint n i j) p q ≡ X Adjoint n i j p q)
-adjoint_action n h i j u = at_pairs Adjoint n _ (solved_pair n h 2 (x_at Adjoint (x_product Adjoint 30 (x_P Adjoint) (x_X Adjoint 0 1))) (x_at Adjoint (x_X Adjoint 0 1)) refl refl i j u)
+-- ---- the adjoint has no trace part
+
+pub traceless : (n : ℕ) → 1 ≤ n → Traceless n
+traceless n h p v = at_pairs Adjoint n (λ p q. over_values n (λ a. P Adjoint n p (a ∷ a ∷ [])) ≡ zero_ℚ) (solved_alone n h 2 (over 20 (x_P Adjoint (x_p Adjoint) (20 ∷ 20 ∷ []))) nought refl refl) p p v v
+
+pub traceless_action : (n : ℕ) → 1 ≤ n → TracelessAction n
+traceless_action n h i j u p v = at_pairs Adjoint n (λ p q. over_values n (λ a. X Adjoint n i j p (a ∷ a ∷ [])) ≡ zero_ℚ) (solved_pair n h 2 (over 20 (x_X Adjoint 0 1 (x_p Adjoint) (20 ∷ 20 ∷ []))) nought refl refl i j u) p p v v
+
+pub projected_action : (n : ℕ) → 1 ≤ n → ProjectedAction n
+projected_action n h i j u = at_pairs Adjoint n _ (solved_pair n h 2 (x_at Adjoint (x_product Adjoint 30 (x_P Adjoint) (x_X Adjoint 0 1))) (x_at Adjoint (x_X Adjoint 0 1)) refl refl i j u)

@@ -73,6 +73,20 @@ Conjugate r n = (i j : ℕ) → AreValues n (i ∷ j ∷ []) → AtPairs r n (λ
 abbrev pub ConjugateProjector : Rep → ℕ → Type 0
 ConjugateProjector r n = AtPairs r n (λ p q. P (conjugate r) n (partner r p) (partner r q) ≡ P r n p q)
 
+-- ---- the adjoint
+
+-- the projector leaves no trace part: its entries vanish where the upper and the lower index are contracted
+abbrev pub Traceless : ℕ → Type 0
+Traceless n = (p : List ℕ) → IsTuple Adjoint n p → over_values n (λ a. P Adjoint n p (a ∷ a ∷ [])) ≡ zero_ℚ
+
+-- nor does any generator
+abbrev pub TracelessAction : ℕ → Type 0
+TracelessAction n = (i j : ℕ) → AreValues n (i ∷ j ∷ []) → (p : List ℕ) → IsTuple Adjoint n p → over_values n (λ a. X Adjoint n i j p (a ∷ a ∷ [])) ≡ zero_ℚ
+
+-- so a generator is unchanged by the projector: P X_ij = X_ij
+abbrev pub ProjectedAction : ℕ → Type 0
+ProjectedAction n = (i j : ℕ) → AreValues n (i ∷ j ∷ []) → AtPairs Adjoint n (λ p q. product Adjoint n (P Adjoint n) (X Adjoint n i j) p q ≡ X Adjoint n i j p q)
+
 -- ---- traces
 
 -- a generator has no trace

@@ -1,5 +1,5 @@
 use Rattle.su_reps.proofs.ProjectorLaws.{idempotent, symmetric, commutes}
-use Rattle.su_reps.proofs.ActionLaws.{commutators, transpose_law, diagonal_law, trace_law, pair_trace_law, conjugate_law, conjugate_projector_law}
+use Rattle.su_reps.proofs.ActionLaws.{commutators, transpose_law, diagonal_law, trace_law, pair_trace_law, conjugate_law, conjugate_projector_law, traceless, traceless_action, projected_action}
 use Rattle.su_reps.proofs.GroupNumbers.{dimension_law, casimir_law, doubled_index_law, index_law, cubic_law, conjugate_numbers}
 use Rattle.su_reps.proofs.CasimirTrace.{casimir_trace_law}
 use Rattle.su_reps.proofs.TripleTrace.{triple_trace_law}
@@ -58,3 +58,12 @@ returns-clause-conjugate_projector c = conjugate_projector_law
 
 pub returns-clause-conjugate_numbers : goal.returns-clause-conjugate_numbers
 returns-clause-conjugate_numbers c = conjugate_numbers
+
+pub returns-clause-traceless : goal.returns-clause-traceless
+returns-clause-traceless c = traceless
+
+pub returns-clause-traceless_action : goal.returns-clause-traceless_action
+returns-clause-traceless_action c = traceless_action
+
+pub returns-clause-projected_action : goal.returns-clause-projected_action
+returns-clause-projected_action c = projected_action
