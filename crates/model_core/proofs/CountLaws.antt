@@ -13,7 +13,7 @@ use Rattle.su_reps.specs.declared.rep.Rep.{Rep}
 use Rattle.su_reps.specs.Tuples.{slots}
 use Rattle.model_core.specs.declared.group.Group.{Group}
 use Rattle.model_core.specs.declared.field.Field.{Field}
-use Rattle.model_core.specs.Component.{slot_sizes, tuples, Component, components_of}
+use Rattle.model_core.specs.Component.{slot_sizes, tuples, Component, copies_of}
 use Rattle.model_core.specs.Place.{tuple_at}
 use Rattle.model_core.specs.Valid.{is_between, is_group}
 use Rattle.exact_algebra.specs.Blocks.{length-blocks, block_at, slice_get-append_left, slice_get-append_right}
@@ -43,9 +43,9 @@ slot_sizes-few (group ∷ groups) (rep ∷ reps) =
 
 -- ---- counts
 
-pub length-components_of : (groups : List Group) (field : Field) → length (components_of groups field) ≡ field.generations * length (tuples (slot_sizes groups field.reps))
-length-components_of groups field =
-    length-blocks (λ g p. record { field = field; generation = g; values = p }) (tuples (slot_sizes groups field.reps)) (range_with_len 1 field.generations)
+pub length-copies_of : (conj : Bool) (groups : List Group) (field : Field) → length (copies_of conj groups field) ≡ field.generations * length (tuples (slot_sizes groups field.reps))
+length-copies_of conj groups field =
+    length-blocks (λ g p. record { field = field; conj = conj; generation = g; values = p }) (tuples (slot_sizes groups field.reps)) (range_with_len 1 field.generations)
     ∙ ap (λ k. k * length (tuples (slot_sizes groups field.reps))) (length-range_with_len 1 field.generations)
 
 pub field_bound : (g m l : ℕ) → g ≤ 6 → m ≤ 6 ^ l → l ≤ 8 → g * m ≤ 10077696
@@ -94,22 +94,22 @@ slot_step sizes i rest count small within counted below =
 -- ---- the component at a place
 
 -- the record of a component of a field
-abbrev component_of : Field → ℕ → List ℕ → Component
-component_of field generation values = record { field = field; generation = generation; values = values }
+abbrev component_of : Bool → Field → ℕ → List ℕ → Component
+component_of conj field generation values = record { field = field; conj = conj; generation = generation; values = values }
 
-pub component_at : (groups : List Group) (field : Field) (place m : ℕ) → m ≡ length (tuples (slot_sizes groups field.reps)) → place < length (components_of groups field)
-    → (place / m < field.generations) × (place % m < m) × (slice_get (components_of groups field) place ≡ Some (record { field = field; generation = place / m + 1; values = tuple_at (slot_sizes groups field.reps) (place % m) }))
-component_at groups field place m counted within =
+pub component_at : (conj : Bool) (groups : List Group) (field : Field) (place m : ℕ) → m ≡ length (tuples (slot_sizes groups field.reps)) → place < length (copies_of conj groups field)
+    → (place / m < field.generations) × (place % m < m) × (slice_get (copies_of conj groups field) place ≡ Some (record { field = field; conj = conj; generation = place / m + 1; values = tuple_at (slot_sizes groups field.reps) (place % m) }))
+component_at conj groups field place m counted within =
     let sizes = slot_sizes groups field.reps in
-    let product : length (components_of groups field) ≡ field.generations * m = length-components_of groups field ∙ ap (λ k. field.generations * k) (sym counted) in
+    let product : length (copies_of conj groups field) ≡ field.generations * m = length-copies_of conj groups field ∙ ap (λ k. field.generations * k) (sym counted) in
     let inside : place < field.generations * m = omega (arith, product, within) in
     let parts = by_parts field.generations m place (positive_factor field.generations m place inside) inside in
     let remainder : place % m < length (tuples sizes) = rw (← counted) parts.1 in
     let whole_place : place / m * length (tuples sizes) + place % m ≡ place = rw (← counted) parts.2 in (
       parts.0,
       parts.1,
-      ap (slice_get (components_of groups field)) (sym whole_place)
-          ∙ block_at (component_of field) (tuples sizes) (range_with_len 1 field.generations) (place / m) (place % m) (place / m + 1) (tuple_at sizes (place % m)) (range_at 1 field.generations (place / m) parts.0) (tuple_at_place sizes (place % m) remainder),
+      ap (slice_get (copies_of conj groups field)) (sym whole_place)
+          ∙ block_at (component_of conj field) (tuples sizes) (range_with_len 1 field.generations) (place / m) (place % m) (place / m + 1) (tuple_at sizes (place % m)) (range_at 1 field.generations (place / m) parts.0) (tuple_at_place sizes (place % m) remainder),
     )
 
 -- the element at a place of one piece among several

@@ -1,23 +1,27 @@
 -- The dense traces over components are products of dimensions.
-use Rattle.std.proofs.Common.{◌≡◌, ℕ, zero, suc, ◌+◌, ◌*◌, ◌≤◌, true, List, [], ◌∷◌, ◌++◌, map, length, take, drop, replicate, refl, sym, ap, ap₂, ◌∙◌, arith, pos, cond}
-use Rattle.std.specs.Prelude.{⊤}
+use Rattle.std.specs.Str.{bytes_eq}
+use Rattle.std.proofs.Common.{◌≡◌, ℕ, zero, suc, ◌+◌, ◌*◌, ◌≤◌, true, List, [], ◌∷◌, ◌++◌, map, length, take, drop, replicate, refl, sym, ap, ap₂, ◌∙◌, arith, pos, cond, Bool, false}
+use Rattle.std.specs.Prelude.{⊤, ◌&&◌, ◌==◌}
+use Rattle.std.proofs.lemmas.Bool.Decides.{nat_tests}
 use Rattle.std.specs.List.{flat_map, range_with_len}
 use Rattle.std.proofs.Math.Seq.{take-append_seam}
 use Rattle.std.proofs.lemmas.Slice.Eq.{bytes_eq-Decides}
 use mathlib.Core.Path.{fun_ext}
-use Rattle.exact_algebra.specs.Sums.{sum, sum-flat_map, sum-map, sum-one, sum-mul, sum-mul_right, below-same, below-mul}
+use Rattle.exact_algebra.specs.Sums.{sum, sum-flat_map, sum-map, sum-one, sum-append, sum-mul, sum-mul_right, below-same, below-mul}
 use Rattle.exact_algebra.specs.Ranges.{sum-range}
-use Rattle.frac128.specs.Rational.{ℚ, whole, zero_ℚ, one_ℚ, ◌*ℚ◌}
+use Rattle.frac128.specs.Rational.{ℚ, whole, zero_ℚ, one_ℚ, ◌*ℚ◌, ◌+ℚ◌}
 use Rattle.frac128.specs.RationalLaws.{ring_ℚ, *ℚ-one, *ℚ_comm, *ℚ_assoc}
-use Rattle.frac128.specs.Whole.{whole-mul, counted}
+use Rattle.frac128.specs.Whole.{whole-mul, whole-add, counted}
 use Rattle.su_reps.specs.declared.rep.Rep.{Rep}
 use Rattle.su_reps.specs.Tuples.{slots, projector}
 use Rattle.su_reps.specs.Operators.{over_values, over_tuples, dimension}
 use Rattle.su_reps.proofs.GroupNumbers.{dimension_law}
 use Rattle.model_core.specs.declared.group.Group.{Group}
 use Rattle.model_core.specs.declared.field.Field.{Field}
-use Rattle.model_core.specs.Component.{slot_sizes, tuples, Component, components_of, projector_over, projector_at, are_copies, trace_over}
-use Rattle.model_core.specs.Multiplet.{dimensions}
+use Rattle.model_core.specs.Component.{slot_sizes, tuples, Component, copies_of, components_of, projector_over, projector_at, same_side, are_copies, trace_over}
+use Rattle.model_core.specs.Multiplet.{dimensions, fermion_copies, scalar_copies}
+use Rattle.exact_algebra.specs.Ring.{add_mul}
+use Rattle.model_core.specs.Scalar.{coordinates_of}
 
 -- ---- sums over tuples
 
@@ -91,8 +95,16 @@ projector_trace (group ∷ groups) (rep ∷ reps) special =
 
 -- ---- traces over components
 
+own_side : (b : Bool) → same_side b b ≡ true
+own_side true = refl
+own_side false = refl
+
 same_copies : (c : Component) → are_copies c c ≡ true
-same_copies c = grind (arith, bytes_eq-Decides)
+same_copies c =
+    let side : same_side c.conj c.conj ≡ true = own_side c.conj in
+    let name : bytes_eq c.field.name c.field.name ≡ true = grind (arith, bytes_eq-Decides) in
+    let generation : (c.generation == c.generation) ≡ true = grind (arith, nat_tests) in
+    ap₂ ◌&&◌ (ap₂ ◌&&◌ name side) generation
 
 own_projector : (groups : List Group) (c : Component) → projector_at groups c c ≡ projector_over groups c.field.reps c.values c.values
 own_projector groups c = ap (λ b. cond b (projector_over groups c.field.reps c.values c.values) zero_ℚ) (same_copies c)
@@ -111,24 +123,52 @@ abbrev pub field_size : List Group → Field → ℕ
 field_size groups field = field.generations * dimensions groups field.reps
 
 -- a matrix that is one number on the components of each field
-pub field_trace : (groups : List Group) (field : Field) (number : Field → ℚ) → AreSpecial groups
-    → trace_over groups (components_of groups field) (λ c. number c.field) ≡ whole (pos (field_size groups field)) *ℚ number field
-field_trace groups field number special =
+pub field_trace : (conj : Bool) (groups : List Group) (field : Field) (number : Field → ℚ) → AreSpecial groups
+    → trace_over groups (copies_of conj groups field) (λ c. number c.field) ≡ whole (pos (field_size groups field)) *ℚ number field
+field_trace conj groups field number special =
     let x = number field in
     let size = whole (pos (dimensions groups field.reps)) in
     sum-flat_map ring_ℚ.semiring _ (range_with_len 1 field.generations) _
     ∙ ap (sum ring_ℚ.semiring (range_with_len 1 field.generations)) (fun_ext (λ g.
-    sum-map ring_ℚ.semiring (λ p. record { field = field; generation = g; values = p }) (tuples (slot_sizes groups field.reps)) (λ c. projector_at groups c c *ℚ number c.field)
-    ∙ ap (sum ring_ℚ.semiring (tuples (slot_sizes groups field.reps))) (fun_ext (λ p. ap (λ k. k *ℚ x) (own_projector groups (record { field = field; generation = g; values = p }))))
+    sum-map ring_ℚ.semiring (λ p. record { field = field; conj = conj; generation = g; values = p }) (tuples (slot_sizes groups field.reps)) (λ c. projector_at groups c c *ℚ number c.field)
+    ∙ ap (sum ring_ℚ.semiring (tuples (slot_sizes groups field.reps))) (fun_ext (λ p. ap (λ k. k *ℚ x) (own_projector groups (record { field = field; conj = conj; generation = g; values = p }))))
     ∙ sum-mul_right ring_ℚ.semiring x (tuples (slot_sizes groups field.reps)) (λ p. projector_over groups field.reps p p)
     ∙ ap (λ k. k *ℚ x) (projector_trace groups field.reps special)))
     ∙ sum-constant 1 field.generations (size *ℚ x)
     ∙ sym (*ℚ_assoc (whole (pos field.generations)) size x)
     ∙ ap (λ k. k *ℚ x) (sym (whole-mul field.generations (dimensions groups field.reps)))
 
--- the trace over the components of all fields: each field's number as often as the field has independent components
+one_times : (n : ℕ) → 1 * n ≡ n
+one_times n = omega arith
+
+-- over the coordinates of a scalar: as often as it has copies
+pub scalar_trace : (groups : List Group) (field : Field) (number : Field → ℚ) → AreSpecial groups
+    → trace_over groups (coordinates_of groups field) (λ c. number c.field) ≡ whole (pos (scalar_copies field * field_size groups field)) *ℚ number field
+scalar_trace groups field number special = by_kind field.real refl
+  where
+    by_kind : (real : Bool) → field.real ≡ real → trace_over groups (coordinates_of groups field) (λ c. number c.field) ≡ whole (pos (scalar_copies field * field_size groups field)) *ℚ number field
+    by_kind true e =
+        let once : scalar_copies field * field_size groups field ≡ field_size groups field = ap (λ b. cond b 1 2 * field_size groups field) e ∙ omega arith in
+        ap (λ b. trace_over groups (cond b (copies_of false groups field) (copies_of false groups field ++ copies_of true groups field)) (λ c. number c.field)) e
+        ∙ field_trace false groups field number special ∙ ap (λ k. whole (pos k) *ℚ number field) (sym once)
+    by_kind false e =
+        let twice : scalar_copies field * field_size groups field ≡ field_size groups field + field_size groups field = ap (λ b. cond b 1 2 * field_size groups field) e ∙ omega arith in
+        ap (λ b. trace_over groups (cond b (copies_of false groups field) (copies_of false groups field ++ copies_of true groups field)) (λ c. number c.field)) e
+        ∙ sum-append ring_ℚ.semiring (copies_of false groups field) (copies_of true groups field) (λ c. projector_at groups c c *ℚ number c.field)
+        ∙ ap₂ ◌+ℚ◌ (field_trace false groups field number special) (field_trace true groups field number special)
+        ∙ sym (add_mul ring_ℚ.semiring (whole (pos (field_size groups field))) (whole (pos (field_size groups field))) (number field))
+        ∙ ap (λ k. k *ℚ number field) (sym (whole-add (field_size groups field) (field_size groups field)) ∙ ap (λ k. whole (pos k)) (sym twice))
+
+-- over the coordinates of all scalars
+pub scalars_trace : (groups : List Group) (fields : List Field) (number : Field → ℚ) → AreSpecial groups
+    → trace_over groups (flat_map (coordinates_of groups) fields) (λ c. number c.field) ≡ sum ring_ℚ.semiring fields (λ field. whole (pos (scalar_copies field * field_size groups field)) *ℚ number field)
+scalars_trace groups fields number special =
+    sum-flat_map ring_ℚ.semiring (coordinates_of groups) fields (λ c. projector_at groups c c *ℚ number c.field)
+    ∙ ap (sum ring_ℚ.semiring fields) (fun_ext (λ field. scalar_trace groups field number special))
+
+-- over the components of all fermions
 pub fields_trace : (groups : List Group) (fields : List Field) (number : Field → ℚ) → AreSpecial groups
-    → trace_over groups (flat_map (components_of groups) fields) (λ c. number c.field) ≡ sum ring_ℚ.semiring fields (λ field. whole (pos (field_size groups field)) *ℚ number field)
+    → trace_over groups (flat_map (components_of groups) fields) (λ c. number c.field) ≡ sum ring_ℚ.semiring fields (λ field. whole (pos (fermion_copies field * field_size groups field)) *ℚ number field)
 fields_trace groups fields number special =
     sum-flat_map ring_ℚ.semiring (components_of groups) fields (λ c. projector_at groups c c *ℚ number c.field)
-    ∙ ap (sum ring_ℚ.semiring fields) (fun_ext (λ field. field_trace groups field number special))
+    ∙ ap (sum ring_ℚ.semiring fields) (fun_ext (λ field. field_trace false groups field number special ∙ ap (λ k. whole (pos k) *ℚ number field) (sym (one_times (field_size groups field)))))

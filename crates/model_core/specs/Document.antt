@@ -116,7 +116,7 @@ unfoldable pub model_in : Members → Option Model
 model_in members =
     if not (keys_are_among (codes "profile" ∷ codes "name" ∷ codes "group" ∷ codes "fermion" ∷ []) members) then None
     else option_and_then (λ profile. option_and_then (λ name. option_and_then (λ groups. option_and_then (λ fermions.
-    Some (record { profile = profile; name = name; groups = groups; fermions = fermions }))
+    Some (record { profile = profile; name = name; groups = groups; fermions = fermions; scalars = [] }))
     (at_key_or (tables_in (fermion_in groups)) [] (codes "fermion") members))
     (at_key (tables_in group_in) (codes "group") members))
     (at_key name_in (codes "name") members))

@@ -9,6 +9,7 @@ use Rattle.model_core.specs.declared.group.Group.{Group}
 use Rattle.model_core.specs.declared.field.Field.{Field}
 use Rattle.model_core.specs.declared.model.Model.{Model}
 use Rattle.model_core.specs.Component.{Component, fermion_components, trace_over}
+use Rattle.model_core.specs.Scalar.{scalar_components}
 
 -- the representation under the group at a place
 abbrev pub rep_at : Field → ℕ → Rep
@@ -29,7 +30,12 @@ generator_count group = whole (pos (group.n * group.n - 1))
 unfoldable pub fermion_sum : Model → ℕ → Group → ℚ
 fermion_sum model place group = trace_over model.groups (fermion_components model) (casimir_at group place) /ℚ generator_count group
 
+-- S_k(S): the same over the scalar coordinates without the dummy, of which there are as many as real components
+unfoldable pub scalar_sum : Model → ℕ → Group → ℚ
+scalar_sum model place group = trace_over model.groups (scalar_components model) (casimir_at group place) /ℚ generator_count group
+
 -- The coefficient of the cube of the coupling at one loop, without its factor 1/(16 pi^2):
--- -(11/3 C_k - 2/3 S_k(F))
+-- -(11/3 C_k - 2/3 S_k(F) - 1/6 S_k(S))
 unfoldable pub gauge_one_loop : Model → ℕ → Group → ℚ
-gauge_one_loop model place group = neg_ℚ (fraction 11 3 *ℚ group_casimir group -ℚ fraction 2 3 *ℚ fermion_sum model place group)
+gauge_one_loop model place group =
+    neg_ℚ (fraction 11 3 *ℚ group_casimir group -ℚ fraction 2 3 *ℚ fermion_sum model place group -ℚ fraction 1 6 *ℚ scalar_sum model place group)

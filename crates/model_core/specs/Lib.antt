@@ -1,5 +1,6 @@
 pub mod Name
 pub mod Component
+pub mod Scalar
 pub mod GaugeBeta
 pub mod Valid
 pub mod Leg

@@ -1,11 +1,15 @@
 -- Which models are valid: the rules on a model's parts and the limits of its sizes.
-use Rattle.std.specs.Prelude.{ℕ, Bool, true, ◌&&◌, not, ◌==◌, nat_le, List, [], ◌∷◌, ◌++◌, map, length, IsTrue}
+use Rattle.std.specs.Prelude.{ℕ, Bool, true, false, ◌&&◌, ◌||◌, not, ◌==◌, nat_le, List, [], ◌∷◌, ◌++◌, map, length, IsTrue}
 use Rattle.std.specs.List.{flat_map, list_all, list_any}
 use Rattle.std.specs.Str.{bytes_eq}
 use Rattle.model_core.specs.declared.group.Group.{Group}
 use Rattle.model_core.specs.declared.field.Field.{Field}
 use Rattle.model_core.specs.declared.model.Model.{Model}
+use Rattle.frac128.specs.Rational.{zero_ℚ, eq_ℚ}
+use Rattle.su_reps.specs.declared.rep.Rep.{Rep}
+use Rattle.su_reps.specs.declared.rep.Rep.TheVariants.{Singlet, Adjoint}
 use Rattle.model_core.specs.Component.{fermion_components}
+use Rattle.model_core.specs.Scalar.{scalar_components}
 
 -- from low to high
 abbrev pub is_between : ℕ → ℕ → ℕ → Bool
@@ -16,7 +20,7 @@ abbrev pub are_distinct : List (List ℕ) → Bool
 are_distinct [] = true
 are_distinct (text ∷ texts) = not (list_any (bytes_eq text) texts) && are_distinct texts
 
--- the names of groups, of their couplings, and of fields, which have to be distinct
+-- the names of groups, of their couplings, of fermions and of scalars, which have to be distinct
 abbrev pub group_names : Group → List (List ℕ)
 group_names group = group.name ∷ group.coupling ∷ []
 
@@ -24,7 +28,7 @@ abbrev pub field_name : Field → List ℕ
 field_name field = field.name
 
 abbrev pub names_of : Model → List (List ℕ)
-names_of model = flat_map group_names model.groups ++ map field_name model.fermions
+names_of model = flat_map group_names model.groups ++ map field_name model.fermions ++ map field_name model.scalars
 
 -- a group SU(n) with n from 2 to 6
 abbrev pub is_group : Group → Bool
@@ -38,17 +42,36 @@ is_field groups field = is_between 1 6 field.generations && length field.reps ==
 abbrev pub are_groups : List Group → Bool
 are_groups groups = is_between 1 4 (length groups) && list_all is_group groups
 
--- at most 24 fields
+-- at most 24 fermions
 abbrev pub are_fields : ℕ → List Field → Bool
 are_fields groups fields = nat_le (length fields) 24 && list_all (is_field groups) fields
 
+-- a representation that is its own conjugate by a swap of each pair of slots
+abbrev pub is_real_rep : Rep → Bool
+is_real_rep Singlet = true
+is_real_rep Adjoint = true
+is_real_rep _ = false
+
+-- a real scalar has no charge and is a singlet or in the adjoint representation of each group
+abbrev pub is_scalar : ℕ → Field → Bool
+is_scalar groups field = is_field groups field && (not field.real || (list_all is_real_rep field.reps && eq_ℚ field.charge zero_ℚ))
+
+-- at most 12 scalars
+abbrev pub are_scalars : ℕ → List Field → Bool
+are_scalars groups fields = nat_le (length fields) 12 && list_all (is_scalar groups) fields
+
 -- parts that meet their rules, and few enough of them
 abbrev pub has_valid_parts : Model → Bool
-has_valid_parts model = are_groups model.groups && are_fields (length model.groups) model.fermions
+has_valid_parts model =
+    (are_groups model.groups && are_fields (length model.groups) model.fermions) && are_scalars (length model.groups) model.scalars
 
--- valid parts with distinct names, and at most 512 fermion components
+-- at most 512 fermion components, and at most 256 scalar coordinates without the dummy
+abbrev pub has_few_components : Model → Bool
+has_few_components model = nat_le (length (fermion_components model)) 512 && nat_le (length (scalar_components model)) 256
+
+-- valid parts, few enough components, and distinct names
 abbrev pub is_valid : Model → Bool
-is_valid model = (has_valid_parts model && nat_le (length (fermion_components model)) 512) && are_distinct (names_of model)
+is_valid model = (has_valid_parts model && has_few_components model) && are_distinct (names_of model)
 
 abbrev pub IsValid : Model → Type 0
 IsValid model = IsTrue (is_valid model)

@@ -1,10 +1,11 @@
-//! The fermion components of a model: how many there are, and which stands at a place.
-ghost use Rattle.std.specs.Prelude.{◌≡◌, ◌==◌, if◌then◌else◌, ◌+◌, ◌*◌, ◌^◌, ◌<◌, ◌≤◌, ◌++◌, true, length, replicate, slice_get, map, Some};
+//! The fermion components and scalar coordinates of a model: how many there are, which stands at a place, and partners.
+ghost use Rattle.std.specs.Prelude.{◌≡◌, ◌+◌, ◌*◌, ◌^◌, ◌<◌, ◌≤◌, ◌++◌, true, false, length, replicate, slice_get, map, option_map, Some, Bool};
 ghost use Rattle.std.specs.List.{flat_map, list_all};
-ghost use Rattle.model_core.specs.Component.{slot_sizes, tuples, components_of, fermion_components};
-ghost use Rattle.model_core.specs.Leg.{leg_of, fermion_legs};
-ghost use Rattle.model_core.specs.Place.{tuple_at};
-ghost use Rattle.model_core.specs.Valid.{is_between, is_group, is_field, are_groups, are_fields, IsValid};
+ghost use Rattle.model_core.specs.Component.{slot_sizes, tuples, copies_of, components_of, fermion_components};
+ghost use Rattle.model_core.specs.Scalar.{coordinates_of, scalar_coordinates, swapped_pairs, IsPartner, partner};
+ghost use Rattle.model_core.specs.Leg.{printed_generation, leg_of, scalar_leg_of, fermion_legs, scalar_legs};
+ghost use Rattle.model_core.specs.Place.{tuple_at, are_pairs};
+ghost use Rattle.model_core.specs.Valid.{is_between, is_group, is_field, are_groups, are_fields, is_real_rep, is_scalar, are_scalars, IsValid};
 
 use crate::field::Field;
 use crate::group::Group;
@@ -89,12 +90,49 @@ pub(crate) fn component_count(groups: &[Group], fields: &[Field]) -> u32
     count
 }
 
+/// How many components a scalar and, where it is complex, its conjugate have.
+fn scalar_count_of(groups: &[Group], field: &Field) -> u32
+    requires small { list_all is_group groups.now ≡ true }
+    requires few { length groups.now ≤ 4 }
+    requires generations { field.now.generations ≤ 6 }
+    ensures value { result ≡ length (coordinates_of groups.now field.now) }
+    ensures bound { result ≤ 20155392 }
+{
+    let count = field_count(groups, field);
+    if field.real {
+        return count;
+    }
+    2 * count
+}
+
+/// How many coordinates some scalars have, without the dummy.
+pub(crate) fn coordinate_count(groups: &[Group], fields: &[Field]) -> u32
+    requires groups { are_groups groups.now ≡ true }
+    requires fields { are_scalars (length groups.now) fields.now ≡ true }
+    ensures value { result ≡ length (flat_map (coordinates_of groups.now) fields.now) }
+    ensures bound { result ≤ 241864704 }
+{
+    let mut count = 0;
+    for field in fields {
+        count += scalar_count_of(groups, field);
+    }
+    count
+}
+
 /// The number of fermion components of a valid model. It takes no memory.
 pub fn fermion_count(model: &Model) -> u32
     requires { IsValid model.now }
     ensures { result ≡ length (fermion_components model.now) }
 {
     component_count(model.groups.as_slice(), model.fermions.as_slice())
+}
+
+/// The number of scalar coordinates of a valid model, the dummy included. It takes no memory.
+pub fn scalar_count(model: &Model) -> u32
+    requires { IsValid model.now }
+    ensures { result ≡ length (scalar_coordinates model.now) }
+{
+    coordinate_count(model.groups.as_slice(), model.scalars.as_slice()) + 1
 }
 
 /// The tuple of slot values at a place of the list of all tuples.
@@ -117,7 +155,7 @@ fn tuple_at(sizes: &[u8], place: u32) -> Slots
 
 /// A generation as it is printed: 0 where the field has one generation.
 fn printed_generation(field: &Field, generation: u32) -> u32
-    ensures { result ≡ (if field.now.generations == 1 then 0 else generation) }
+    ensures { result ≡ printed_generation field.now generation }
 {
     if field.generations == 1 {
         return 0;
@@ -125,7 +163,32 @@ fn printed_generation(field: &Field, generation: u32) -> u32
     generation
 }
 
-/// The leg at a place of a field's components.
+/// Where a component stands among those of its field.
+#[derive(Drop)]
+struct Position {
+    generation: u32,
+    slots: Slots,
+}
+
+/// The generation and the slot values of the component at a place of a field's components, or of its conjugate's.
+fn position_of(groups: &[Group], field: &Field, place: u32) -> Position
+    requires small { list_all is_group groups.now ≡ true }
+    requires few { length groups.now ≤ 4 }
+    requires generations { field.now.generations ≤ 6 }
+    requires place { place < length (components_of groups.now field.now) }
+    ensures { (conj : Bool) → slice_get (copies_of conj groups.now field.now) place ≡
+        Some (record { field = field.now; conj = conj; generation = result.generation; values = result.slots }) }
+{
+    let sizes = slot_sizes(groups, field.reps.as_slice());
+    let count = tuple_count(sizes.as_slice());
+    let generation = place / count + 1;
+    Position {
+        generation,
+        slots: tuple_at(sizes.as_slice(), place % count),
+    }
+}
+
+/// The leg at a place of a fermion's components.
 fn leg_at(groups: &[Group], field: &Field, place: u32) -> Leg
     requires small { list_all is_group groups.now ≡ true }
     requires few { length groups.now ≤ 4 }
@@ -133,13 +196,12 @@ fn leg_at(groups: &[Group], field: &Field, place: u32) -> Leg
     requires place { place < length (components_of groups.now field.now) }
     ensures { slice_get (map leg_of (components_of groups.now field.now)) place ≡ Some result }
 {
-    let sizes = slot_sizes(groups, field.reps.as_slice());
-    let count = tuple_count(sizes.as_slice());
+    let Position { generation, slots } = position_of(groups, field, place);
     Leg::Fermion {
         name: field.name.copy(),
         conj: false,
-        generation: printed_generation(field, place / count + 1),
-        slots: tuple_at(sizes.as_slice(), place % count),
+        generation: printed_generation(field, generation),
+        slots,
     }
 }
 
@@ -160,4 +222,142 @@ pub fn fermion_leg(model: &Model, place: u32) -> Leg
         rest -= count;
     }
     unreachable!()
+}
+
+/// The leg at a place of a scalar's plain components, or of its conjugate ones.
+fn scalar_copy_at(groups: &[Group], field: &Field, conj: bool, place: u32) -> Leg
+    requires small { list_all is_group groups.now ≡ true }
+    requires few { length groups.now ≤ 4 }
+    requires generations { field.now.generations ≤ 6 }
+    requires place { place < length (components_of groups.now field.now) }
+    ensures { slice_get (map scalar_leg_of (copies_of conj groups.now field.now)) place ≡ Some result }
+{
+    let Position { generation, slots } = position_of(groups, field, place);
+    Leg::Scalar {
+        name: field.name.copy(),
+        conj,
+        generation: printed_generation(field, generation),
+        slots,
+    }
+}
+
+/// The leg at a place of a scalar's coordinates.
+fn scalar_leg_at(groups: &[Group], field: &Field, place: u32) -> Leg
+    requires small { list_all is_group groups.now ≡ true }
+    requires few { length groups.now ≤ 4 }
+    requires generations { field.now.generations ≤ 6 }
+    requires place { place < length (coordinates_of groups.now field.now) }
+    ensures { slice_get (map scalar_leg_of (coordinates_of groups.now field.now)) place ≡ Some result }
+{
+    let count = field_count(groups, field);
+    if place < count {
+        return scalar_copy_at(groups, field, false, place);
+    }
+    scalar_copy_at(groups, field, true, place - count)
+}
+
+/// The leg of the scalar coordinate at a place, counted from 0, of a valid model. Coordinates go by field; a complex
+/// field has first all plain and then all conjugate ones, each by generation and tuple; the dummy is last. It takes no
+/// memory.
+pub fn scalar_leg(model: &Model, place: u32) -> Leg
+    requires valid { IsValid model.now }
+    requires place { place < length (scalar_coordinates model.now) }
+    ensures { slice_get (scalar_legs model.now) place ≡ Some result }
+{
+    let groups = model.groups.as_slice();
+    let mut rest = place;
+    for field in model.scalars.as_slice() {
+        let count = scalar_count_of(groups, field);
+        if rest < count {
+            return scalar_leg_at(groups, field, rest);
+        }
+        rest -= count;
+    }
+    Leg::Dummy
+}
+
+/// The place of the tuple with the two values of each pair swapped.
+fn swapped_place(sizes: &[u8], place: u32) -> u32
+    requires small { list_all (is_between 1 6) sizes.now ≡ true }
+    requires few { length sizes.now ≤ 12 }
+    requires pairs { are_pairs sizes.now ≡ true }
+    requires place { place < length (tuples sizes.now) }
+    ensures value { tuple_at sizes.now result ≡ swapped_pairs (tuple_at sizes.now place) }
+    ensures within { result < length (tuples sizes.now) }
+{
+    match sizes {
+        [n, _, rest @ ..] => {
+            let count = tuple_count(rest);
+            let n = u32::from(*n);
+            let pair = place / count;
+            (pair % n * n + pair / n) * count + swapped_place(rest, place % count)
+        }
+        _ => place,
+    }
+}
+
+/// The place of the partner among a real scalar's coordinates: the component with each pair of slot values swapped.
+fn real_partner(groups: &[Group], field: &Field, place: u32) -> u32
+    requires small { list_all is_group groups.now ≡ true }
+    requires few { length groups.now ≤ 4 }
+    requires generations { field.now.generations ≤ 6 }
+    requires real { field.now.real ≡ true }
+    requires reps { list_all is_real_rep field.now.reps ≡ true }
+    requires place { place < length (coordinates_of groups.now field.now) }
+    ensures { IsPartner (coordinates_of groups.now field.now) place result }
+{
+    let sizes = slot_sizes(groups, field.reps.as_slice());
+    let count = tuple_count(sizes.as_slice());
+    let swapped = swapped_place(sizes.as_slice(), place % count);
+    place / count * count + swapped
+}
+
+/// The place of the partner among a complex scalar's coordinates: the same component on the other side.
+fn complex_partner(groups: &[Group], field: &Field, place: u32) -> u32
+    requires small { list_all is_group groups.now ≡ true }
+    requires few { length groups.now ≤ 4 }
+    requires generations { field.now.generations ≤ 6 }
+    requires complex { field.now.real ≡ false }
+    requires place { place < length (coordinates_of groups.now field.now) }
+    ensures { IsPartner (coordinates_of groups.now field.now) place result }
+{
+    let count = field_count(groups, field);
+    if place < count {
+        return place + count;
+    }
+    place - count
+}
+
+/// The place of the partner among a scalar's coordinates.
+fn partner_in(groups: &[Group], field: &Field, place: u32) -> u32
+    requires small { list_all is_group groups.now ≡ true }
+    requires few { length groups.now ≤ 4 }
+    requires scalar { is_scalar (length groups.now) field.now ≡ true }
+    requires place { place < length (coordinates_of groups.now field.now) }
+    ensures { IsPartner (coordinates_of groups.now field.now) place result }
+{
+    if field.real {
+        return real_partner(groups, field, place);
+    }
+    complex_partner(groups, field, place)
+}
+
+/// The place of the partner a* of the scalar coordinate a at a place of a valid model: the conjugate one of a complex
+/// field's, the one with the two values of each adjoint slot pair swapped of a real field's, and the dummy's own. It
+/// takes no memory.
+pub fn partner(model: &Model, place: u32) -> u32
+    requires valid { IsValid model.now }
+    requires place { place < length (scalar_coordinates model.now) }
+    ensures { slice_get (scalar_coordinates model.now) result ≡ option_map partner (slice_get (scalar_coordinates model.now) place) }
+{
+    let groups = model.groups.as_slice();
+    let mut before = 0;
+    for field in model.scalars.as_slice() {
+        let count = scalar_count_of(groups, field);
+        if place - before < count {
+            return before + partner_in(groups, field, place - before);
+        }
+        before += count;
+    }
+    place
 }

@@ -15,7 +15,7 @@ mod name;
 mod tests;
 mod valid;
 
-pub use component::{fermion_count, fermion_leg};
+pub use component::{fermion_count, fermion_leg, partner, scalar_count, scalar_leg};
 pub use fault::{Part, ReadFault, ReadKind};
 pub use field::{Field, FieldList, RepList};
 pub use format::Format;

@@ -10,5 +10,7 @@ pub struct Model {
     pub profile: u32,
     pub name: Name,
     pub groups: GroupList,
+    /// Left-handed two-component Weyl fermions.
     pub fermions: FieldList,
+    pub scalars: FieldList,
 }

@@ -1,7 +1,7 @@
-//! Components of a model with two groups, and names, by values counted by hand.
+//! Components and coordinates of a model with two groups, and names, by values counted by hand.
 use crate::{
     Field, FieldList, Group, GroupList, Leg, Model, Name, RepList, fermion_count, fermion_leg,
-    is_valid,
+    is_valid, partner, scalar_count, scalar_leg,
 };
 use frac128::Frac;
 use std::alloc::Global;
@@ -56,7 +56,19 @@ fn model_of(rt: &impl Abort, alloc: Global) -> Result<Model, Fail> {
         name: name_of(rt, "M"),
         groups,
         fermions,
+        scalars: FieldList::new(alloc),
     })
+}
+
+// The same with a complex doublet and a real field in the adjoint representation of SU(3).
+fn scalar_model(rt: &impl Abort, alloc: Global) -> Result<Model, Fail> {
+    let mut model = model_of(rt, alloc)?;
+    let doublet = field_of(rt, alloc, "H", 1, Rep::Fund, Rep::Singlet)?;
+    let mut octet = field_of(rt, alloc, "Phi", 1, Rep::Singlet, Rep::Adjoint)?;
+    octet.real = true;
+    model.scalars.push(doublet)?;
+    model.scalars.push(octet)?;
+    Ok(model)
 }
 
 #[test]
@@ -113,6 +125,54 @@ fn components(rt: HostRuntime) -> Result<(), Fail> {
         assert!(rt; place < fermion_count(&model));
         assert_eq!(rt; digits_of(&fermion_leg(&model, place)), digits);
     }
+    Ok(())
+}
+
+// Whether a coordinate is a conjugate one, and its slot values as one number.
+fn side_and_digits_of(leg: &Leg) -> (bool, u64) {
+    match leg {
+        Leg::Scalar { conj, slots, .. } => {
+            let mut digits = 0u64;
+            for value in slots.as_slice() {
+                digits = digits.wrapping_mul(10).wrapping_add(u64::from(*value));
+            }
+            (*conj, digits)
+        }
+        _ => (false, 0),
+    }
+}
+
+#[test]
+fn coordinates(rt: HostRuntime) -> Result<(), Fail> {
+    let model = scalar_model(&rt, rt.alloc())?;
+    assert!(rt; is_valid(rt.alloc(), &model)?);
+    assert_eq!(rt; scalar_count(&model), 14);
+    let rows: [(u32, (bool, u64), u32); 9] = [
+        (0, (false, 1), 2),
+        (1, (false, 2), 3),
+        (2, (true, 1), 0),
+        (3, (true, 2), 1),
+        (4, (false, 11), 4),
+        (5, (false, 12), 7),
+        (7, (false, 21), 5),
+        (11, (false, 32), 9),
+        (13, (false, 0), 13),
+    ];
+    for (place, coordinate, other) in rows {
+        assert!(rt; place < scalar_count(&model));
+        assert_eq!(rt; side_and_digits_of(&scalar_leg(&model, place)), coordinate);
+        assert_eq!(rt; partner(&model, place), other);
+    }
+    Ok(())
+}
+
+#[test]
+fn a_real_doublet(rt: HostRuntime) -> Result<(), Fail> {
+    let mut model = model_of(&rt, rt.alloc())?;
+    let mut doublet = field_of(&rt, rt.alloc(), "H", 1, Rep::Fund, Rep::Singlet)?;
+    doublet.real = true;
+    model.scalars.push(doublet)?;
+    assert!(rt; !is_valid(rt.alloc(), &model)?);
     Ok(())
 }
 

@@ -2,14 +2,16 @@
 ghost use Rattle.std.specs.Prelude.{◌≡◌, ◌∷◌, [], ◌++◌, false, true, length, map, IfOk};
 ghost use Rattle.std.specs.List.{flat_map, list_all, list_any};
 ghost use Rattle.std.specs.Str.{bytes_eq};
-ghost use Rattle.model_core.specs.Valid.{is_between, is_group, is_field, are_groups, are_fields, has_valid_parts, are_distinct, names_of, group_names, field_name, is_valid};
+ghost use Rattle.model_core.specs.Valid.{is_between, is_group, is_field, are_groups, are_fields, is_real_rep, is_scalar, are_scalars, has_valid_parts, has_few_components, are_distinct, names_of, group_names, field_name, is_valid};
 
-use crate::component::component_count;
+use crate::component::{component_count, coordinate_count};
 use crate::field::Field;
 use crate::group::Group;
 use crate::model::Model;
 use crate::name::{Name, NameList};
+use frac128::Frac;
 use std::alloc::{AllocError, Global};
+use su_reps::Rep;
 
 /// Whether a number is from `low` to `high`.
 fn is_between(low: usize, high: usize, number: usize) -> bool
@@ -59,7 +61,7 @@ fn are_complete(groups: usize, fields: &[Field]) -> bool
     fields.iter().all(|field| is_field(groups, field))
 }
 
-/// Whether there are at most 24 fields, each of them as it must be.
+/// Whether there are at most 24 fermions, each of them as it must be.
 fn are_fields(groups: usize, fields: &[Field]) -> bool
     ensures { result ≡ are_fields groups fields.now }
 {
@@ -69,6 +71,47 @@ fn are_fields(groups: usize, fields: &[Field]) -> bool
     are_complete(groups, fields)
 }
 
+/// Whether each representation is the singlet or the adjoint.
+fn are_real(reps: &[Rep]) -> bool
+    ensures { result ≡ list_all is_real_rep reps.now }
+{
+    reps.iter()
+        .all(|rep| matches!(rep, Rep::Singlet | Rep::Adjoint))
+}
+
+/// Whether a scalar is as a field must be and, where it is real, has no charge and real representations.
+fn is_scalar(groups: usize, field: &Field) -> bool
+    ensures { result ≡ is_scalar groups field.now }
+{
+    if !is_field(groups, field) {
+        return false;
+    }
+    if !field.real {
+        return true;
+    }
+    if !are_real(field.reps.as_slice()) {
+        return false;
+    }
+    field.charge == Frac::zero()
+}
+
+/// Whether each scalar is as it must be.
+fn are_all_scalars(groups: usize, fields: &[Field]) -> bool
+    ensures { result ≡ list_all (is_scalar groups) fields.now }
+{
+    fields.iter().all(|field| is_scalar(groups, field))
+}
+
+/// Whether there are at most 12 scalars, each of them as it must be.
+fn are_scalars(groups: usize, fields: &[Field]) -> bool
+    ensures { result ≡ are_scalars groups fields.now }
+{
+    if fields.len() > 12 {
+        return false;
+    }
+    are_all_scalars(groups, fields)
+}
+
 /// Whether the parts of a model meet their rules, and are few enough.
 fn has_valid_parts(model: &Model) -> bool
     ensures { result ≡ has_valid_parts model.now }
@@ -76,7 +119,22 @@ fn has_valid_parts(model: &Model) -> bool
     if !are_groups(model.groups.as_slice()) {
         return false;
     }
-    are_fields(model.groups.len(), model.fermions.as_slice())
+    if !are_fields(model.groups.len(), model.fermions.as_slice()) {
+        return false;
+    }
+    are_scalars(model.groups.len(), model.scalars.as_slice())
+}
+
+/// Whether there are at most 512 fermion components and 256 scalar coordinates without the dummy.
+fn has_few_components(model: &Model) -> bool
+    requires { has_valid_parts model.now ≡ true }
+    ensures { result ≡ has_few_components model.now }
+{
+    let groups = model.groups.as_slice();
+    if component_count(groups, model.fermions.as_slice()) > 512 {
+        return false;
+    }
+    coordinate_count(groups, model.scalars.as_slice()) <= 256
 }
 
 /// The names of groups, couplings and fields, in file order.
@@ -85,6 +143,7 @@ fn names_of(alloc: Global, model: &Model) -> Result<NameList, AllocError>
 {
     let mut names = group_names(alloc, model.groups.as_slice())?;
     push_field_names(&mut names, model.fermions.as_slice())?;
+    push_field_names(&mut names, model.scalars.as_slice())?;
     Ok(names)
 }
 
@@ -130,15 +189,16 @@ fn are_distinct(names: &[Name]) -> bool
 }
 
 /// Whether a model is valid: 1 to 4 groups SU(n) with n from 2 to 6; at most 24 fermion fields with 1 to 6 generations
-/// and a representation for each group; at most 512 fermion components; and distinct names of groups, couplings and
-/// fields. Only want of memory is an error.
+/// and a representation for each group; at most 12 such scalars, of which the real ones have no charge and are singlets
+/// or in the adjoint representation; at most 512 fermion components and 256 scalar coordinates without the dummy; and
+/// distinct names of groups, couplings and fields. Only want of memory is an error.
 pub fn is_valid(alloc: Global, model: &Model) -> Result<bool, AllocError>
     ensures { IfOk result (λ valid. valid ≡ is_valid model.now) }
 {
     if !has_valid_parts(model) {
         return Ok(false);
     }
-    if component_count(model.groups.as_slice(), model.fermions.as_slice()) > 512 {
+    if !has_few_components(model) {
         return Ok(false);
     }
     let names = names_of(alloc, model)?;

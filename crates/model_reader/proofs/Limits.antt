@@ -49,11 +49,11 @@ not_up_to_four n many = grind (arith, nat_tests)
 
 -- a model with more than four groups isn't valid
 many_groups : (profile : ℕ) (name : List ℕ) (groups : List Group) (fermions : List Field) → 4 < length groups
-    → checked_model (record { profile = profile; name = name; groups = groups; fermions = fermions }) ≡ None
+    → checked_model (record { profile = profile; name = name; groups = groups; fermions = fermions; scalars = [] }) ≡ None
 many_groups profile name groups fermions many = rw (not_up_to_four (length groups) many)
 
 any_fermions : (profile : ℕ) (name : List ℕ) (groups : List Group) (fermions : Option (List Field)) → 4 < length groups
-    → option_and_then checked_model (option_and_then (λ fermions. Some (record { profile = profile; name = name; groups = groups; fermions = fermions })) fermions) ≡ None
+    → option_and_then checked_model (option_and_then (λ fermions. Some (record { profile = profile; name = name; groups = groups; fermions = fermions; scalars = [] })) fermions) ≡ None
 any_fermions profile name groups None many = refl
 any_fermions profile name groups (Some fermions) many = many_groups profile name groups fermions many
 
@@ -61,7 +61,7 @@ any_model : (right_keys : Bool) (profile : Option ℕ) (name : Option (List ℕ)
     → IsLong n groups → 4 < n
     → option_and_then checked_model (if not right_keys then None
     else option_and_then (λ profile. option_and_then (λ name. option_and_then (λ groups. option_and_then (λ fermions.
-    Some (record { profile = profile; name = name; groups = groups; fermions = fermions })) (fermions groups)) groups) name) profile) ≡ None
+    Some (record { profile = profile; name = name; groups = groups; fermions = fermions; scalars = [] })) (fermions groups)) groups) name) profile) ≡ None
 any_model false profile name groups fermions n long many = refl
 any_model true None name groups fermions n long many = refl
 any_model true (Some profile) None groups fermions n long many = refl

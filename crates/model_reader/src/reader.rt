@@ -11,7 +11,7 @@ use crate::fermions::fermions_at;
 use crate::groups::{group_count, groups_at};
 use crate::keys::keys_are_among;
 use crate::values::{name_at, number_at};
-use model_core::{Model, Part, ReadFault, ReadKind, is_valid};
+use model_core::{FieldList, Model, Part, ReadFault, ReadKind, is_valid};
 use std::alloc::{AllocError, Global};
 use toml::Table;
 
@@ -88,6 +88,7 @@ fn model_in(alloc: Global, table: &Table) -> Result<Option<Model>, AllocError>
         name,
         groups,
         fermions,
+        scalars: FieldList::new(alloc),
     }))
 }
 

@@ -4,8 +4,8 @@ ghost use Rattle.frac128.specs.Rational.{whole, ◌/ℚ◌};
 ghost use Rattle.std.specs.List.{list_all};
 ghost use Rattle.model_core.specs.GaugeBeta.{rep_at, gauge_one_loop};
 ghost use Rattle.su_reps.specs.Operators.{doubled_index};
-ghost use Rattle.model_core.specs.Multiplet.{dimensions, multiplicity, doubled_index_sum};
-ghost use Rattle.model_core.specs.Valid.{is_group, is_field, are_groups, are_fields, IsValid};
+ghost use Rattle.model_core.specs.Multiplet.{dimensions, multiplicity, fermion_copies, scalar_copies, doubled_index_sum};
+ghost use Rattle.model_core.specs.Valid.{is_group, is_field, are_groups, are_fields, are_scalars, IsValid};
 
 use frac128::Frac;
 use model_core::{Field, Group, Model};
@@ -56,12 +56,12 @@ fn field_index(groups: &[Group], place: usize, group: &Group, field: &Field) -> 
     multiplicity(groups, field, place) * u64::from(doubled_index(*rep, group.n))
 }
 
-/// Twice the sum of the fields' Dynkin indices under the group at a place.
-fn doubled_index_sum(groups: &[Group], place: usize, group: &Group, fields: &[Field]) -> u64
+/// Twice the sum of the fermions' Dynkin indices under the group at a place.
+fn fermion_index(groups: &[Group], place: usize, group: &Group, fields: &[Field]) -> u64
     requires groups { are_groups groups.now ≡ true }
     requires fields { are_fields (length groups.now) fields.now ≡ true }
     requires group { slice_get groups.now place ≡ Some group.now }
-    ensures value { result ≡ doubled_index_sum groups.now place group.now fields.now }
+    ensures value { result ≡ doubled_index_sum fermion_copies groups.now place group.now fields.now }
     ensures bound { result ≤ 2 ^ 55 }
 {
     let mut sum = 0;
@@ -71,22 +71,57 @@ fn doubled_index_sum(groups: &[Group], place: usize, group: &Group, fields: &[Fi
     sum
 }
 
-/// A number of thirds: `doubled` less 11 times `n`.
-fn thirds(doubled: u64, n: u32) -> Frac
-    ensures { result ≡ whole (pos doubled -ℤ pos (11 * n)) /ℚ whole (pos 3) }
+/// Twice a scalar's share in the sum of Dynkin indices under the group at a place: a complex one counts twice, once for
+/// its conjugate.
+fn scalar_share(groups: &[Group], place: usize, group: &Group, field: &Field) -> u64
+    requires groups { are_groups groups.now ≡ true }
+    requires field { is_field (length groups.now) field.now ≡ true }
+    requires group { slice_get groups.now place ≡ Some group.now }
+    ensures value { result ≡ scalar_copies field.now * (multiplicity groups.now field.now place * doubled_index (rep_at field.now place) group.now.n) }
+    ensures bound { result ≤ 2 ^ 51 }
 {
-    let count = i128::from(doubled) - i128::from(11 * u64::from(n));
-    Frac::new(count, 3).unwrap()
+    let share = field_index(groups, place, group, field);
+    if field.real {
+        return share;
+    }
+    2 * share
+}
+
+/// Twice the sum of the scalars' Dynkin indices under the group at a place.
+fn scalar_index(groups: &[Group], place: usize, group: &Group, fields: &[Field]) -> u64
+    requires groups { are_groups groups.now ≡ true }
+    requires fields { are_scalars (length groups.now) fields.now ≡ true }
+    requires group { slice_get groups.now place ≡ Some group.now }
+    ensures value { result ≡ doubled_index_sum scalar_copies groups.now place group.now fields.now }
+    ensures bound { result ≤ 2 ^ 55 }
+{
+    let mut sum = 0;
+    for field in fields {
+        sum += scalar_share(groups, place, group, field);
+    }
+    sum
+}
+
+/// A number of twelfths: 4 `fermions` and `scalars` less 44 times `n`.
+fn twelfths(fermions: u64, scalars: u64, n: u32) -> Frac
+    requires fermions { fermions ≤ 2 ^ 55 }
+    requires scalars { scalars ≤ 2 ^ 55 }
+    ensures { result ≡ whole (pos (4 * fermions + scalars) -ℤ pos (44 * n)) /ℚ whole (pos 12) }
+{
+    let count = i128::from(4 * fermions + scalars) - i128::from(44 * u64::from(n));
+    Frac::new(count, 12).unwrap()
 }
 
 /// The one-loop coefficient of the cube of the gauge coupling of the group at a place, without its factor 1/(16 pi^2):
-/// 2/3 of the fermions' sum of Dynkin indices less 11/3 of n. With twice the indices it is a number of thirds.
+/// 2/3 of the fermions' sum of Dynkin indices and 1/6 of the scalars' less 11/3 of n. With twice the indices it is a
+/// number of twelfths.
 pub fn gauge_one(model: &Model, place: usize, group: &Group) -> Frac
     requires valid { IsValid model.now }
     requires group { slice_get model.now.groups place ≡ Some group.now }
     ensures { result ≡ gauge_one_loop model.now place group.now }
 {
     let groups = model.groups.as_slice();
-    let doubled = doubled_index_sum(groups, place, group, model.fermions.as_slice());
-    thirds(doubled, group.n)
+    let fermions = fermion_index(groups, place, group, model.fermions.as_slice());
+    let scalars = scalar_index(groups, place, group, model.scalars.as_slice());
+    twelfths(fermions, scalars, group.n)
 }

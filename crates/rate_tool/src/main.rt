@@ -8,6 +8,8 @@ ghost use Rattle.rate_tool.specs.Words.{texts};
 mod broken_keeper;
 mod gate;
 mod gauge;
+#[cfg(test)]
+mod gauge_tests;
 mod keeper;
 mod lines;
 mod print;

@@ -1,6 +1,6 @@
-use Rattle.std.proofs.Common.{◌≡◌, ◌≤◌, ◌*◌, length, ap, sym, ◌∙◌, arith}
+use Rattle.std.proofs.Common.{◌≡◌, ◌≤◌, ◌*◌, length, ap, sym, ◌∙◌, arith, false}
 use Rattle.model_core.specs.Component.{slot_sizes, tuples}
-use Rattle.model_core.proofs.CountLaws.{length-components_of, field_bound}
+use Rattle.model_core.proofs.CountLaws.{length-copies_of, field_bound}
 use Rattle.model_core.proofs.component.field_count.Goals as goal
 
 pub returns-clause-bound : goal.returns-clause-bound
@@ -17,4 +17,4 @@ pub returns-clause-value : goal.returns-clause-value
 returns-clause-value c =
     let sizes : c.as_slice-2.result.now ≡ slot_sizes c.args.groups.now c.args.field.now.reps = cc in
     ap (λ k. c.args.field.now.generations * k) (c.tuple_count.ensures.value ∙ ap (λ s. length (tuples s)) sizes)
-    ∙ sym (length-components_of c.args.groups.now c.args.field.now)
+    ∙ sym (length-copies_of false c.args.groups.now c.args.field.now)

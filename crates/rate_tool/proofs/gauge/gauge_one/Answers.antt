@@ -1,7 +1,7 @@
-use Rattle.std.proofs.Common.{◌≡◌, ◌∙◌, ◌*◌, ap, sym}
+use Rattle.std.proofs.Common.{◌≡◌, ◌∙◌, ◌+◌, ◌*◌, ap₂, sym}
 use Rattle.std.specs.Prelude.{pos, ◌-ℤ◌}
 use Rattle.frac128.specs.Rational.{whole, ◌/ℚ◌}
-use Rattle.model_core.specs.Multiplet.{doubled_index_sum}
+use Rattle.model_core.specs.Multiplet.{fermion_copies, scalar_copies, doubled_index_sum}
 use Rattle.model_core.proofs.GaugeLaws.{valid-gauge_one_loop}
 use Rattle.rate_tool.proofs.gauge.gauge_one.Goals as goal
 
@@ -9,7 +9,8 @@ pub returns : goal.returns
 returns c =
     let model = c.args.model.now in
     let group = c.args.group.now in
-    let doubled : c.doubled_index_sum-doubled.result ≡ doubled_index_sum model.groups c.args.place group model.fermions = cc in
-    c.thirds.ensures
-    ∙ ap (λ k. whole (pos k -ℤ pos (11 * group.n)) /ℚ whole (pos 3)) doubled
+    let fermions : c.fermion_index-fermions.result ≡ doubled_index_sum fermion_copies model.groups c.args.place group model.fermions = cc in
+    let scalars : c.scalar_index-scalars.result ≡ doubled_index_sum scalar_copies model.groups c.args.place group model.scalars = cc in
+    c.twelfths.ensures
+    ∙ ap₂ (λ f s. whole (pos (4 * f + s) -ℤ pos (44 * group.n)) /ℚ whole (pos 12)) fermions scalars
     ∙ sym (valid-gauge_one_loop model c.args.place group c.requires.valid c.requires.group)
