@@ -2,10 +2,9 @@
 use Rattle.std.proofs.Common.{◌≡◌, ℕ, zero, suc, ◌+◌, ◌<◌, ◌≤◌, List, [], ◌∷◌, ◌++◌, length, get_or, drop, refl, sym, ap, ◌∙◌, arith, append-nil, append_assoc, drop_of_length-le, Bool, true, false, eqb, true≢false, Ordering, Less, Equal, Greater, subst}
 use Rattle.std.specs.Prelude.{⊤}
 use Rattle.std.specs.Ordering.{is_lt}
-use Rattle.std.specs.List.Sorted.{IsSortedByKey, IsPermutation}
+use Rattle.std.specs.List.Sorted.{IsSortedByKey}
 use Rattle.std.proofs.lemmas.List.Sorted.{sorted_far, ranks_by}
 use Rattle.exact_algebra.specs.Ring.{Semiring, ZeroTest, add_mul}
-use Rattle.exact_algebra.specs.Permuted.{sum-permuted}
 use Rattle.exact_algebra.specs.Formal.{Keys, Formal, eval, eval-cons, AllKeys, Above, IsCanonical, strip_at, eval-strip_at, AllKeys-strip_at, canonical_strip_at, greater_less}
 use Rattle.exact_algebra.specs.Canon.{of, of_same}
 
@@ -91,11 +90,6 @@ module _ (K : Keys) (R : Semiring) (Z : ZeroTest R) where
 
   pub of-gathered : (es : Formal K R) → of K R Z (gathered es) ≡ of K R Z es
   of-gathered es = of_same K R Z (gathered es) es (value_gathered es)
-
-  -- a sum doesn't see the order of its terms
-  pub of-permuted : (es fs : Formal K R) → IsPermutation es fs → of K R Z fs ≡ of K R Z es
-  unfolding eval
-  of-permuted es fs h = of_same K R Z fs es (λ F. sum-permuted R es fs h (λ e. e.1 ⊗ F e.0))
 
   -- ---- its order
 

@@ -3,7 +3,8 @@ use Rattle.std.specs.Prelude.{map, IsPermutation}
 use Rattle.exact_algebra.specs.Naturals.{nat_semiring, nat_zero}
 use Rattle.beta_poly.specs.Symbol.{symbol_keys, conj_symbol, conj_symbol-conj_symbol}
 use Rattle.beta_poly.specs.Monomial.{IsMonomial, monomial, conj_monomial}
-use Rattle.beta_poly.proofs.Gathered.{rising, of-permuted}
+use Rattle.exact_algebra.specs.Maps.{of-permuted}
+use Rattle.beta_poly.proofs.Gathered.{rising}
 use Rattle.beta_poly.proofs.Distinct.{canonical_renamed}
 use Rattle.beta_poly.proofs.Views.{powers_are}
 use Rattle.beta_poly.proofs.monomial.Mono.conjugate.Goals as goal

@@ -4,7 +4,8 @@ use Rattle.frac128.specs.Rational.{ℚ}
 use Rattle.frac128.specs.RationalLaws.{ring_ℚ}
 use Rattle.beta_poly.specs.Monomial.{monomial_keys, conj_monomial, conj_monomial-conj_monomial}
 use Rattle.beta_poly.specs.Polynomial.{IsPolynomial, polynomial, zero_test}
-use Rattle.beta_poly.proofs.Gathered.{rising, of-permuted}
+use Rattle.exact_algebra.specs.Maps.{of-permuted}
+use Rattle.beta_poly.proofs.Gathered.{rising}
 use Rattle.beta_poly.proofs.Distinct.{canonical_renamed}
 use Rattle.beta_poly.proofs.Views.{terms_are, polynomial-conjugate}
 use Rattle.beta_poly.proofs.polynomial.Poly.conj.Goals as goal

@@ -3,7 +3,7 @@ use Rattle.exact_algebra.specs.Canon.{of-products}
 use Rattle.frac128.specs.RationalLaws.{ring_ℚ}
 use Rattle.beta_poly.specs.Monomial.{monomials, monomial_keys}
 use Rattle.beta_poly.specs.Polynomial.{polynomial, mul_poly, zero_test, TermsFit}
-use Rattle.beta_poly.proofs.Gathered.{of-permuted}
+use Rattle.exact_algebra.specs.Maps.{of-permuted}
 use Rattle.beta_poly.proofs.Views.{terms_are}
 use Rattle.beta_poly.proofs.polynomial.Poly.mul.Goals as goal
 
