@@ -5,6 +5,7 @@ mod Refusing
 mod Gathered
 mod Distinct
 mod Rows
+mod Lookup
 pub mod ExponentLaws
 mod PolynomialLaws
 mod OrderLaws

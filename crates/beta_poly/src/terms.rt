@@ -115,15 +115,13 @@ pub(crate) fn scale_terms(
     Ok(out)
 }
 
-/// The coefficient of a monomial in the terms of a polynomial.
+/// The coefficient of a monomial in the terms of a polynomial, found by halving.
 pub(crate) fn coefficient_in(terms: &[(Mono, Frac)], mono: &Mono) -> Frac
     requires { IsPolynomial terms.now }
     ensures { result ≡ coefficient_of (polynomial terms.now) mono.now }
 {
-    for term in terms {
-        if let Ordering::Equal = mono.cmp(&term.0) {
-            return term.1;
-        }
+    match terms.binary_search_by(|term| term.0.cmp(mono)) {
+        Ok(place) => terms[place].1,
+        Err(_) => Frac::zero(),
     }
-    Frac::zero()
 }
