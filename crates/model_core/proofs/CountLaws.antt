@@ -18,7 +18,7 @@ use Rattle.model_core.specs.Place.{tuple_at}
 use Rattle.model_core.specs.Valid.{is_between, is_group}
 use Rattle.exact_algebra.specs.Blocks.{length-blocks, block_at, slice_get-append_left, slice_get-append_right}
 use Rattle.model_core.proofs.TupleLaws.{slots_few, length-tuples, by_parts, range_at, tuple_at_place}
-use Rattle.model_core.proofs.ValidLaws.{between, first_passes, between-test}
+use Rattle.model_core.proofs.ValidLaws.{between, first_passes}
 
 -- ---- slots
 
@@ -31,9 +31,8 @@ slot_sizes-small [] reps valid = refl
 slot_sizes-small (group ∷ groups) [] valid = refl
 slot_sizes-small (group ∷ groups) (rep ∷ reps) valid =
     let parts = first_passes is_group group groups valid in
-    let n = between 2 6 group.n parts.0 in
     list_all-append (is_between 1 6) (replicate (slots rep) group.n) (slot_sizes groups reps)
-    ∙ ap₂ ◌&&◌ (all_replicate (is_between 1 6) group.n (slots rep) (between-test 1 6 group.n (omega (arith, n.0)) n.1)) (slot_sizes-small groups reps parts.1)
+    ∙ ap₂ ◌&&◌ (all_replicate (is_between 1 6) group.n (slots rep) parts.0) (slot_sizes-small groups reps parts.1)
 
 pub slot_sizes-few : (groups : List Group) (reps : List Rep) → length (slot_sizes groups reps) ≤ 2 * length groups
 slot_sizes-few [] reps = omega arith

@@ -1,7 +1,6 @@
 -- The partners of a scalar's coordinates, by their places.
-use Rattle.std.proofs.Common.{◌≡◌, ℕ, suc, ◌+◌, ◌-◌, ◌*◌, ◌/◌, ◌%◌, ◌<◌, ◌≤◌, Bool, true, false, cond, List, [], ◌∷◌, ◌++◌, map, take, get_or, length, length-append, Some, refl, sym, ap, ap₂, subst, ◌∙◌, arith}
+use Rattle.std.proofs.Common.{◌≡◌, ℕ, ◌+◌, ◌-◌, ◌*◌, ◌/◌, ◌%◌, ◌<◌, ◌≤◌, Bool, true, false, cond, List, [], ◌∷◌, ◌++◌, map, take, get_or, length, Some, refl, sym, ap, ap₂, ◌∙◌, arith}
 use Rattle.std.specs.Prelude.{slice_get, not, option_map}
-use native.Mathlib.Nat.{mul_comm}
 use Rattle.exact_algebra.specs.Blocks.{slice_get-append_left, slice_get-append_right, slice_get-map_some}
 use Rattle.model_core.specs.declared.group.Group.{Group}
 use Rattle.model_core.specs.declared.field.Field.{Field}
@@ -10,11 +9,11 @@ use Rattle.model_core.specs.Place.{tuple_at}
 use Rattle.std.specs.List.{flat_map}
 use Rattle.std.proofs.lemmas.List.{length-map}
 use Rattle.model_core.specs.declared.model.Model.{Model}
-use Rattle.model_core.specs.Scalar.{Coordinate, coordinates_of, scalar_components, scalar_coordinates, swapped_pairs, partner_component, partner, IsPartner}
+use Rattle.model_core.specs.Scalar.{coordinates_of, scalar_components, scalar_coordinates, swapped_pairs, partner_component, partner, IsPartner}
 use Rattle.model_core.specs.Scalar.Coordinate.{Scalar, Dummy}
 use Rattle.model_core.proofs.CountLaws.{component_at, length-copies_of, piece_at}
 use Rattle.model_core.proofs.PairLaws.{quotient, remainder, less_pair}
-use Rattle.model_core.proofs.ScalarLaws.{real_coordinates, complex_coordinates, same_count, length-complex, conjugate_within, dummy_at}
+use Rattle.model_core.proofs.ScalarLaws.{real_coordinates, complex_coordinates, conjugate_within, dummy_at}
 
 -- ---- the partner of a component
 

@@ -1,5 +1,5 @@
 -- How many coordinates a scalar has, and which stands at a place.
-use Rattle.std.proofs.Common.{◌≡◌, ℕ, ◌+◌, ◌-◌, ◌*◌, ◌<◌, ◌≤◌, Bool, true, false, cond, List, [], ◌∷◌, ◌++◌, map, length, get_or, length-append, Some, refl, sym, ap, ap₂, ◌∙◌, arith}
+use Rattle.std.proofs.Common.{◌≡◌, ℕ, ◌-◌, ◌*◌, ◌<◌, ◌≤◌, Bool, true, false, cond, List, [], ◌∷◌, ◌++◌, map, length, get_or, length-append, Some, refl, sym, ap, ◌∙◌, arith}
 use Rattle.std.specs.Prelude.{slice_get}
 use Rattle.std.proofs.lemmas.List.{map-append, length-map}
 use Rattle.exact_algebra.specs.Blocks.{slice_get-append_left, slice_get-append_right}
@@ -62,13 +62,13 @@ conjugate_within groups field place count counted above within = by_kind field.r
     by_kind false e = omega (arith, counted, above, within, length-complex groups field e)
 
 -- each of valid scalars is valid
-pub scalar_passes : (groups : ℕ) (fields : List Field) (i : ℕ) (d field : Field) → are_scalars groups fields ≡ true → i < length fields → field ≡ get_or fields i d → is_scalar groups field ≡ true
+pub scalar_passes : (groups : List Group) (fields : List Field) (i : ℕ) (d field : Field) → are_scalars groups fields ≡ true → i < length fields → field ≡ get_or fields i d → is_scalar groups field ≡ true
 scalar_passes groups fields i d field valid within is =
     let each = (both _ (list_all (is_scalar groups) fields) valid).1 in
     ap (is_scalar groups) is ∙ passes_at (is_scalar groups) fields i d each within
 
 -- the generations of a valid scalar
-pub scalar_generations : (groups : ℕ) (fields : List Field) (i : ℕ) (d field : Field) → are_scalars groups fields ≡ true → i < length fields → field ≡ get_or fields i d → field.generations ≤ 6
+pub scalar_generations : (groups : List Group) (fields : List Field) (i : ℕ) (d field : Field) → are_scalars groups fields ≡ true → i < length fields → field ≡ get_or fields i d → field.generations ≤ 6
 scalar_generations groups fields i d field valid within is =
     (field_generations groups field (both (is_field groups field) _ (scalar_passes groups fields i d field valid within is)).0).1
 

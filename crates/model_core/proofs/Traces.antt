@@ -1,25 +1,27 @@
 -- The dense traces over components are products of dimensions.
 use Rattle.std.specs.Str.{bytes_eq}
-use Rattle.std.proofs.Common.{◌≡◌, ℕ, zero, suc, ◌+◌, ◌*◌, ◌≤◌, true, List, [], ◌∷◌, ◌++◌, map, length, take, drop, replicate, refl, sym, ap, ap₂, ◌∙◌, arith, pos, cond, Bool, false}
-use Rattle.std.specs.Prelude.{⊤, ◌&&◌, ◌==◌}
+use Rattle.std.proofs.Common.{◌≡◌, ℕ, zero, suc, ◌+◌, ◌*◌, ◌≤◌, true, List, [], ◌∷◌, ◌++◌, map, length, take, drop, replicate, refl, sym, subst, ap, ap₂, ◌∙◌, arith, pos, cond, Bool, false, inl, inr}
+use Rattle.std.specs.Prelude.{⊤, ◌⊎◌, ◌&&◌, ◌==◌}
 use Rattle.std.proofs.lemmas.Bool.Decides.{nat_tests}
 use Rattle.std.specs.List.{flat_map, range_with_len}
 use Rattle.std.proofs.Math.Seq.{take-append_seam}
 use Rattle.std.proofs.lemmas.Slice.Eq.{bytes_eq-Decides}
 use mathlib.Core.Path.{fun_ext}
-use Rattle.exact_algebra.specs.Sums.{sum, sum-flat_map, sum-map, sum-one, sum-append, sum-mul, sum-mul_right, below-same, below-mul}
+use Rattle.exact_algebra.specs.Sums.{sum, Each, sum-same_on, sum-flat_map, sum-map, sum-one, sum-append, sum-mul, sum-mul_right, below-same, below-mul}
 use Rattle.exact_algebra.specs.Ranges.{sum-range}
 use Rattle.frac128.specs.Rational.{ℚ, whole, zero_ℚ, one_ℚ, ◌*ℚ◌, ◌+ℚ◌}
 use Rattle.frac128.specs.RationalLaws.{ring_ℚ, *ℚ-one, *ℚ_comm, *ℚ_assoc}
 use Rattle.frac128.specs.Whole.{whole-mul, whole-add, counted}
 use Rattle.su_reps.specs.declared.rep.Rep.{Rep}
+use Rattle.su_reps.specs.declared.rep.Rep.TheVariants.{Singlet}
+use Rattle.su_reps.specs.Laws.{Dimension}
 use Rattle.su_reps.specs.Tuples.{slots, projector}
 use Rattle.su_reps.specs.Operators.{over_values, over_tuples, dimension}
 use Rattle.su_reps.proofs.GroupNumbers.{dimension_law}
 use Rattle.model_core.specs.declared.group.Group.{Group}
 use Rattle.model_core.specs.declared.field.Field.{Field}
 use Rattle.model_core.specs.Component.{slot_sizes, tuples, Component, copies_of, components_of, projector_over, projector_at, same_side, are_copies, trace_over}
-use Rattle.model_core.specs.Multiplet.{dimensions, fermion_copies, scalar_copies}
+use Rattle.model_core.specs.Multiplet.{dimensions, field_size, fermion_copies, scalar_copies}
 use Rattle.exact_algebra.specs.Ring.{add_mul}
 use Rattle.model_core.specs.Scalar.{coordinates_of}
 
@@ -71,13 +73,18 @@ other_slots rep groups reps p q e =
     let back : drop (slots rep) (p ++ q) ≡ q = ap (λ k. drop k (p ++ q)) (sym e) ∙ drop-append_seam p q in
     ap (λ t. projector_over groups reps t t) back
 
--- n is 2 or more for each group
-abbrev pub AreSpecial : List Group → Type 0
-AreSpecial [] = ⊤
-AreSpecial (group ∷ groups) = (2 ≤ group.n) × AreSpecial groups
+-- for each group n is 2 or more, or the representation is the singlet, whose projector is 1
+abbrev pub AreSpecial : List Group → List Rep → Type 0
+AreSpecial (group ∷ groups) (rep ∷ reps) = ((2 ≤ group.n) ⊎ (rep ≡ Singlet)) × AreSpecial groups reps
+AreSpecial _ _ = ⊤
+
+-- the dimension is the trace of the projector
+slots_trace : (rep : Rep) (n : ℕ) → (2 ≤ n) ⊎ (rep ≡ Singlet) → Dimension rep n
+slots_trace rep n (inl large) = dimension_law rep n large
+slots_trace rep n (inr is) = subst (λ r. Dimension r n) (sym is) refl
 
 -- the trace of a field's projector over its tuples
-pub projector_trace : (groups : List Group) (reps : List Rep) → AreSpecial groups
+pub projector_trace : (groups : List Group) (reps : List Rep) → AreSpecial groups reps
     → sum ring_ℚ.semiring (tuples (slot_sizes groups reps)) (λ p. projector_over groups reps p p) ≡ whole (pos (dimensions groups reps))
 projector_trace [] reps special = sum-one ring_ℚ.semiring [] (λ _. one_ℚ)
 projector_trace (group ∷ groups) [] special = sum-one ring_ℚ.semiring [] (λ _. one_ℚ)
@@ -90,7 +97,7 @@ projector_trace (group ∷ groups) (rep ∷ reps) special =
     ∙ sum-mul ring_ℚ.semiring (projector rep n p p) (tuples (slot_sizes groups reps)) (λ q. projector_over groups reps q q)
     ∙ ap (λ s. projector rep n p p *ℚ s) (projector_trace groups reps special.1))
     ∙ over_tuples-mul_right n (slots rep) (λ p. projector rep n p p) rest
-    ∙ ap (λ s. s *ℚ rest) (dimension_law rep n special.0)
+    ∙ ap (λ s. s *ℚ rest) (slots_trace rep n special.0)
     ∙ sym (whole-mul (dimension rep n) (dimensions groups reps))
 
 -- ---- traces over components
@@ -118,12 +125,8 @@ sum-constant a n x =
     ∙ ap (λ k. x *ℚ k) (counted n)
     ∙ *ℚ_comm x (whole (pos n))
 
--- how many independent components a field has in all its generations
-abbrev pub field_size : List Group → Field → ℕ
-field_size groups field = field.generations * dimensions groups field.reps
-
 -- a matrix that is one number on the components of each field
-pub field_trace : (conj : Bool) (groups : List Group) (field : Field) (number : Field → ℚ) → AreSpecial groups
+pub field_trace : (conj : Bool) (groups : List Group) (field : Field) (number : Field → ℚ) → AreSpecial groups field.reps
     → trace_over groups (copies_of conj groups field) (λ c. number c.field) ≡ whole (pos (field_size groups field)) *ℚ number field
 field_trace conj groups field number special =
     let x = number field in
@@ -142,7 +145,7 @@ one_times : (n : ℕ) → 1 * n ≡ n
 one_times n = omega arith
 
 -- over the coordinates of a scalar: as often as it has copies
-pub scalar_trace : (groups : List Group) (field : Field) (number : Field → ℚ) → AreSpecial groups
+pub scalar_trace : (groups : List Group) (field : Field) (number : Field → ℚ) → AreSpecial groups field.reps
     → trace_over groups (coordinates_of groups field) (λ c. number c.field) ≡ whole (pos (scalar_copies field * field_size groups field)) *ℚ number field
 scalar_trace groups field number special = by_kind field.real refl
   where
@@ -160,15 +163,20 @@ scalar_trace groups field number special = by_kind field.real refl
         ∙ ap (λ k. k *ℚ number field) (sym (whole-add (field_size groups field) (field_size groups field)) ∙ ap (λ k. whole (pos k)) (sym twice))
 
 -- over the coordinates of all scalars
-pub scalars_trace : (groups : List Group) (fields : List Field) (number : Field → ℚ) → AreSpecial groups
-    → trace_over groups (flat_map (coordinates_of groups) fields) (λ c. number c.field) ≡ sum ring_ℚ.semiring fields (λ field. whole (pos (scalar_copies field * field_size groups field)) *ℚ number field)
-scalars_trace groups fields number special =
-    sum-flat_map ring_ℚ.semiring (coordinates_of groups) fields (λ c. projector_at groups c c *ℚ number c.field)
-    ∙ ap (sum ring_ℚ.semiring fields) (fun_ext (λ field. scalar_trace groups field number special))
+pub scalars_trace : (groups : List Group) (fields : List Field) (matrix : Component → ℚ) (number : Field → ℚ) → ((c : Component) → matrix c ≡ number c.field)
+    → Each ring_ℚ.semiring (λ field. AreSpecial groups field.reps) fields
+    → trace_over groups (flat_map (coordinates_of groups) fields) matrix ≡ sum ring_ℚ.semiring fields (λ field. whole (pos (scalar_copies field * field_size groups field)) *ℚ number field)
+scalars_trace groups fields matrix number same special =
+    ap (trace_over groups (flat_map (coordinates_of groups) fields)) (fun_ext same)
+    ∙ sum-flat_map ring_ℚ.semiring (coordinates_of groups) fields (λ c. projector_at groups c c *ℚ number c.field)
+    ∙ sum-same_on ring_ℚ.semiring (λ field. AreSpecial groups field.reps) fields _ _ special (λ field each. scalar_trace groups field number each)
 
 -- over the components of all fermions
-pub fields_trace : (groups : List Group) (fields : List Field) (number : Field → ℚ) → AreSpecial groups
-    → trace_over groups (flat_map (components_of groups) fields) (λ c. number c.field) ≡ sum ring_ℚ.semiring fields (λ field. whole (pos (fermion_copies field * field_size groups field)) *ℚ number field)
-fields_trace groups fields number special =
-    sum-flat_map ring_ℚ.semiring (components_of groups) fields (λ c. projector_at groups c c *ℚ number c.field)
-    ∙ ap (sum ring_ℚ.semiring fields) (fun_ext (λ field. field_trace false groups field number special ∙ ap (λ k. whole (pos k) *ℚ number field) (sym (one_times (field_size groups field)))))
+pub fields_trace : (groups : List Group) (fields : List Field) (matrix : Component → ℚ) (number : Field → ℚ) → ((c : Component) → matrix c ≡ number c.field)
+    → Each ring_ℚ.semiring (λ field. AreSpecial groups field.reps) fields
+    → trace_over groups (flat_map (components_of groups) fields) matrix ≡ sum ring_ℚ.semiring fields (λ field. whole (pos (fermion_copies field * field_size groups field)) *ℚ number field)
+fields_trace groups fields matrix number same special =
+    ap (trace_over groups (flat_map (components_of groups) fields)) (fun_ext same)
+    ∙ sum-flat_map ring_ℚ.semiring (components_of groups) fields (λ c. projector_at groups c c *ℚ number c.field)
+    ∙ sum-same_on ring_ℚ.semiring (λ field. AreSpecial groups field.reps) fields _ _ special
+    (λ field each. field_trace false groups field number each ∙ ap (λ k. whole (pos k) *ℚ number field) (sym (one_times (field_size groups field))))

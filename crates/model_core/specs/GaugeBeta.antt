@@ -1,7 +1,7 @@
 -- The beta functions of gauge couplings: M. E. Machacek and M. T. Vaughn, Nucl. Phys. B222 (1983) 83, with products of
 -- groups as in M. Luo, H. Wang and Y. Xiao, hep-ph/0211440. Fermions are left-handed two-component Weyl fields.
-use Rattle.std.specs.Prelude.{ℕ, ◌-◌, ◌*◌, pos, slice_get, unwrap_or}
-use Rattle.frac128.specs.Rational.{ℚ, whole, ◌-ℚ◌, ◌*ℚ◌, ◌/ℚ◌, neg_ℚ}
+use Rattle.std.specs.Prelude.{ℕ, ◌-◌, ◌*◌, pos, slice_get, unwrap_or, if◌then◌else◌}
+use Rattle.frac128.specs.Rational.{ℚ, whole, zero_ℚ, one_ℚ, ◌-ℚ◌, ◌*ℚ◌, ◌/ℚ◌, neg_ℚ}
 use Rattle.su_reps.specs.declared.rep.Rep.{Rep}
 use Rattle.su_reps.specs.declared.rep.Rep.TheVariants.{Singlet}
 use Rattle.su_reps.specs.Operators.{casimir, fraction}
@@ -10,21 +10,27 @@ use Rattle.model_core.specs.declared.field.Field.{Field}
 use Rattle.model_core.specs.declared.model.Model.{Model}
 use Rattle.model_core.specs.Component.{Component, fermion_components, trace_over}
 use Rattle.model_core.specs.Scalar.{scalar_components}
+use Rattle.model_core.specs.Valid.{is_abelian}
 
 -- the representation under the group at a place
 abbrev pub rep_at : Field → ℕ → Rep
 rep_at field place = unwrap_or (slice_get field.reps place) Singlet
 
--- the quadratic Casimir of a component under the group at a place
+-- the charge of a component: that of its field, negated on a conjugate
+abbrev pub charge_of : Component → ℚ
+charge_of c = if c.conj then neg_ℚ c.field.charge else c.field.charge
+
+-- the quadratic Casimir of a component under the group at a place: the charge squared under the U(1), whose generator is the charge
 abbrev pub casimir_at : Group → ℕ → Component → ℚ
-casimir_at group place c = casimir (rep_at c.field place) group.n
+casimir_at group place c = if is_abelian group then charge_of c *ℚ charge_of c else casimir (rep_at c.field place) group.n
 
--- the quadratic Casimir of the group itself, and the number of its generators
+-- the quadratic Casimir C_k of the group itself, 0 for the U(1), whose gauge boson has no charge
 abbrev pub group_casimir : Group → ℚ
-group_casimir group = whole (pos group.n)
+group_casimir group = if is_abelian group then zero_ℚ else whole (pos group.n)
 
+-- the number d_k of the group's generators
 abbrev pub generator_count : Group → ℚ
-generator_count group = whole (pos (group.n * group.n - 1))
+generator_count group = if is_abelian group then one_ℚ else whole (pos (group.n * group.n - 1))
 
 -- S_k(F): the trace of the fermions' Casimirs over the number of generators
 unfoldable pub fermion_sum : Model → ℕ → Group → ℚ

@@ -3,7 +3,12 @@ pub mod Component
 pub mod Scalar
 pub mod GaugeBeta
 pub mod Valid
+pub mod Plain
 pub mod Leg
 pub mod Place
 pub mod Multiplet
+pub mod Fault
+pub mod Literal
 pub mod Document
+pub mod Walk
+pub mod Reading

@@ -1,5 +1,5 @@
 -- The scalar coordinates of a model: the components of its scalar fields and of their conjugates, and the dummy.
-use Rattle.std.specs.Prelude.{ℕ, Bool, false, true, not, if◌then◌else◌, List, [], ◌∷◌, ◌++◌, map, ◌≡◌, Some, slice_get}
+use Rattle.std.specs.Prelude.{ℕ, false, true, not, if◌then◌else◌, List, [], ◌∷◌, ◌++◌, map, ◌≡◌, Some, slice_get}
 use Rattle.std.specs.List.{flat_map}
 use Rattle.model_core.specs.declared.group.Group.{Group}
 use Rattle.model_core.specs.declared.field.Field.{Field}

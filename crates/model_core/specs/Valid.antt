@@ -30,20 +30,43 @@ field_name field = field.name
 abbrev pub names_of : Model → List (List ℕ)
 names_of model = flat_map group_names model.groups ++ map field_name model.fermions ++ map field_name model.scalars
 
--- a group SU(n) with n from 2 to 6
+-- a group with n = 1 is the U(1)
+abbrev pub is_abelian : Group → Bool
+is_abelian group = group.n == 1
+
+-- at most one U(1)
+abbrev pub has_one_abelian : List Group → Bool
+has_one_abelian [] = true
+has_one_abelian (group ∷ groups) = not (is_abelian group && list_any is_abelian groups) && has_one_abelian groups
+
+-- the U(1), or SU(n) with n from 2 to 6
 abbrev pub is_group : Group → Bool
-is_group group = is_between 2 6 group.n
+is_group group = is_between 1 6 group.n
 
--- 1 to 6 generations, and a representation for each of so many groups
-abbrev pub is_field : ℕ → Field → Bool
-is_field groups field = is_between 1 6 field.generations && length field.reps == groups
-
--- 1 to 4 groups
+-- at most 4 groups, of these at most one U(1)
 abbrev pub are_groups : List Group → Bool
-are_groups groups = is_between 1 4 (length groups) && list_all is_group groups
+are_groups groups = (nat_le (length groups) 4 && list_all is_group groups) && has_one_abelian groups
+
+-- a representation for each group, the singlet for the U(1)
+abbrev pub is_rep : Group → Rep → Bool
+is_rep group Singlet = true
+is_rep group _ = not (is_abelian group)
+
+abbrev pub are_reps : List Group → List Rep → Bool
+are_reps [] [] = true
+are_reps (group ∷ groups) (rep ∷ reps) = is_rep group rep && are_reps groups reps
+are_reps _ _ = false
+
+-- only a U(1) gives charges
+abbrev pub has_charge_of : List Group → Field → Bool
+has_charge_of groups field = list_any is_abelian groups || eq_ℚ field.charge zero_ℚ
+
+-- 1 to 6 generations, a representation for each group, and a charge only under a U(1)
+abbrev pub is_field : List Group → Field → Bool
+is_field groups field = (is_between 1 6 field.generations && are_reps groups field.reps) && has_charge_of groups field
 
 -- at most 24 fermions
-abbrev pub are_fields : ℕ → List Field → Bool
+abbrev pub are_fields : List Group → List Field → Bool
 are_fields groups fields = nat_le (length fields) 24 && list_all (is_field groups) fields
 
 -- a representation that is its own conjugate by a swap of each pair of slots
@@ -53,17 +76,17 @@ is_real_rep Adjoint = true
 is_real_rep _ = false
 
 -- a real scalar has no charge and is a singlet or in the adjoint representation of each group
-abbrev pub is_scalar : ℕ → Field → Bool
+abbrev pub is_scalar : List Group → Field → Bool
 is_scalar groups field = is_field groups field && (not field.real || (list_all is_real_rep field.reps && eq_ℚ field.charge zero_ℚ))
 
 -- at most 12 scalars
-abbrev pub are_scalars : ℕ → List Field → Bool
+abbrev pub are_scalars : List Group → List Field → Bool
 are_scalars groups fields = nat_le (length fields) 12 && list_all (is_scalar groups) fields
 
 -- parts that meet their rules, and few enough of them
 abbrev pub has_valid_parts : Model → Bool
 has_valid_parts model =
-    (are_groups model.groups && are_fields (length model.groups) model.fermions) && are_scalars (length model.groups) model.scalars
+    (are_groups model.groups && are_fields model.groups model.fermions) && are_scalars model.groups model.scalars
 
 -- at most 512 fermion components, and at most 256 scalar coordinates without the dummy
 abbrev pub has_few_components : Model → Bool

@@ -77,10 +77,10 @@ fn field_count(groups: &[Group], field: &Field) -> u32
     field.generations * tuple_count(sizes.as_slice())
 }
 
-/// How many components some fields have.
-pub(crate) fn component_count(groups: &[Group], fields: &[Field]) -> u32
+/// How many components some fermions of a valid model's groups have. It takes no memory.
+pub fn component_count(groups: &[Group], fields: &[Field]) -> u32
     requires groups { are_groups groups.now ≡ true }
-    requires fields { are_fields (length groups.now) fields.now ≡ true }
+    requires fields { are_fields groups.now fields.now ≡ true }
     ensures { result ≡ length (flat_map (components_of groups.now) fields.now) }
 {
     let mut count = 0;
@@ -105,10 +105,10 @@ fn scalar_count_of(groups: &[Group], field: &Field) -> u32
     2 * count
 }
 
-/// How many coordinates some scalars have, without the dummy.
-pub(crate) fn coordinate_count(groups: &[Group], fields: &[Field]) -> u32
+/// How many coordinates some scalars of a valid model's groups have, without the dummy. It takes no memory.
+pub fn coordinate_count(groups: &[Group], fields: &[Field]) -> u32
     requires groups { are_groups groups.now ≡ true }
-    requires fields { are_scalars (length groups.now) fields.now ≡ true }
+    requires fields { are_scalars groups.now fields.now ≡ true }
     ensures value { result ≡ length (flat_map (coordinates_of groups.now) fields.now) }
     ensures bound { result ≤ 241864704 }
 {
@@ -332,7 +332,7 @@ fn complex_partner(groups: &[Group], field: &Field, place: u32) -> u32
 fn partner_in(groups: &[Group], field: &Field, place: u32) -> u32
     requires small { list_all is_group groups.now ≡ true }
     requires few { length groups.now ≤ 4 }
-    requires scalar { is_scalar (length groups.now) field.now ≡ true }
+    requires scalar { is_scalar groups.now field.now ≡ true }
     requires place { place < length (coordinates_of groups.now field.now) }
     ensures { IsPartner (coordinates_of groups.now field.now) place result }
 {

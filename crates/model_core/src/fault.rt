@@ -1,10 +1,34 @@
 //! Why a model file is refused, and where.
+ghost use Rattle.std.specs.Prelude.{◌≡◌};
+ghost use Rattle.model_core.specs.Fault.{fault, over};
 
 /// The kinds of fault, by their numbers. The list grows with the forms that are read.
 #[derive(Clone, Copy, Debug, PartialEq, Eq)]
 pub enum ReadKind {
     /// The bytes are no TOML document.
     NotToml = 1,
+    /// A table has a key that it may not have.
+    UnknownKey = 2,
+    /// A table lacks a key that it must have.
+    MissingKey = 3,
+    /// A value has another type than its key asks for.
+    WrongType = 4,
+    /// A text is no name, or no text in LaTeX.
+    BadName = 5,
+    /// An earlier group, coupling or field has the same name.
+    RepeatedName = 6,
+    /// A number is out of its range, or a text is no fraction.
+    BadNumber = 7,
+    /// No group has this n, or a field has a charge where no group is a U(1).
+    BadGroup = 8,
+    /// An earlier group is a U(1) too.
+    SecondAbelian = 9,
+    /// Representations are given under a name that no group SU(n) has, or by no word for one.
+    BadRep = 10,
+    /// A real scalar has a charge, or a representation other than the singlet and the adjoint.
+    BadRealScalar = 11,
+    /// There are more than a model may have.
+    OverLimit = 17,
     /// The document has a form that is not built yet.
     Unbuilt = 18,
 }
@@ -20,7 +44,7 @@ pub enum Part {
     Term,
 }
 
-/// A fault and its place: the part, the element counted from 1 (0 for the file itself), the number of the
+/// A fault and its place: the part, the element counted from 1 (0 for the file itself and for totals), the number of the
 /// key in its table (0 for the element itself), and for a count above its limit the number that was found.
 #[derive(Clone, Copy, Debug, PartialEq, Eq)]
 pub struct ReadFault {
@@ -29,4 +53,58 @@ pub struct ReadFault {
     pub index: u32,
     pub at: u32,
     pub count: u32,
+}
+
+/// Where a fault may stand, as `ReadFault` says it.
+#[derive(Clone, Copy, Debug, PartialEq, Eq)]
+pub struct FaultPlace {
+    pub part: Part,
+    pub index: u32,
+    pub at: u32,
+}
+
+impl FaultPlace {
+    /// The place of an element of a part, counted from 1, or of the part as a whole by 0.
+    pub fn new(part: Part, index: u32) -> FaultPlace
+        ensures { result ≡ record { part = part; index = index; at = 0 } }
+    {
+        FaultPlace { part, index, at: 0 }
+    }
+
+    /// A fault of this kind, which isn't `OverLimit`, at this place.
+    pub fn fault(self, kind: ReadKind) -> ReadFault
+        ensures { result ≡ fault self kind }
+    {
+        ReadFault {
+            kind,
+            part: self.part,
+            index: self.index,
+            at: self.at,
+            count: 0,
+        }
+    }
+
+    /// The fault of a count above its limit at this place. A count above 2^32 - 1 is given as 2^32 - 1.
+    pub fn over(self, count: usize) -> ReadFault
+        ensures { result ≡ over self count }
+    {
+        ReadFault {
+            kind: ReadKind::OverLimit,
+            part: self.part,
+            index: self.index,
+            at: self.at,
+            count: count.min(u32::MAX as usize) as u32,
+        }
+    }
+
+    /// The place of a key of the same table, by the key's number.
+    pub fn key(self, at: u32) -> FaultPlace
+        ensures { result ≡ record { part = self.part; index = self.index; at = at } }
+    {
+        FaultPlace {
+            part: self.part,
+            index: self.index,
+            at,
+        }
+    }
 }

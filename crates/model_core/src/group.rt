@@ -1,4 +1,7 @@
 //! Gauge groups.
+ghost use Rattle.std.specs.Prelude.{◌≡◌};
+ghost use Rattle.model_core.specs.Valid.{is_abelian};
+
 use crate::name::{Latex, Name};
 use frac128::ItemList;
 
@@ -12,6 +15,15 @@ pub struct Group {
     pub coupling: Name,
     /// The gauge coupling in LaTeX.
     pub latex: Latex,
+}
+
+impl Group {
+    /// Whether the group is the U(1).
+    pub fn is_abelian(&self) -> bool
+        ensures { result ≡ is_abelian self.now }
+    {
+        self.n == 1
+    }
 }
 
 /// Groups in file order.

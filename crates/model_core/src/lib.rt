@@ -15,8 +15,11 @@ mod name;
 mod tests;
 mod valid;
 
-pub use component::{fermion_count, fermion_leg, partner, scalar_count, scalar_leg};
-pub use fault::{Part, ReadFault, ReadKind};
+pub use component::{
+    component_count, coordinate_count, fermion_count, fermion_leg, partner, scalar_count,
+    scalar_leg,
+};
+pub use fault::{FaultPlace, Part, ReadFault, ReadKind};
 pub use field::{Field, FieldList, RepList};
 pub use format::Format;
 pub use group::{Group, GroupList};

@@ -1,7 +1,7 @@
 //! Names and the texts that stand for them in LaTeX.
 ghost use Rattle.std.specs.Prelude.{◌≡◌, ℕ, ◌≤◌, true, false, List, take, length, MatchResult};
 ghost use Rattle.std.specs.List.{list_all};
-ghost use Rattle.model_core.specs.Name.{is_name, is_word, is_reserved, is_word_byte};
+ghost use Rattle.model_core.specs.Name.{is_name, is_word, is_reserved, is_word_byte, is_latex, is_latex_byte};
 
 use crate::inline::InlineBytes;
 use frac128::ItemList;
@@ -9,6 +9,9 @@ use std::marker::Model;
 
 /// The longest name, in bytes.
 const LONGEST: usize = 24;
+
+/// The longest text in LaTeX, in bytes.
+const LONGEST_LATEX: usize = 40;
 
 /// A name: an ASCII letter, then letters, digits or `_`, at most 24 bytes, and neither `eps` nor `conj`.
 #[derive(Drop)]
@@ -25,7 +28,7 @@ impl Model for Name {
 /// Names in order.
 pub type NameList = ItemList<Name>;
 
-/// The text is no name.
+/// The text is no name, or can't stand for one in LaTeX.
 #[derive(Clone, Copy, Debug, PartialEq, Eq)]
 pub struct BadName;
 
@@ -121,7 +124,7 @@ impl Name {
     }
 }
 
-/// A text in LaTeX: 1 to 40 bytes.
+/// A text in LaTeX: 1 to 40 bytes, each an ASCII character that is printed, or a space.
 #[derive(Drop)]
 pub struct Latex {
     text: InlineBytes<40>,
@@ -133,7 +136,46 @@ impl Model for Latex {
     ghost view = { λ s. s.text };
 }
 
+/// Whether the text can stand for a name in LaTeX.
+fn is_latex(text: &[u8]) -> bool
+    ensures { result ≡ is_latex text.now }
+{
+    if text.is_empty() {
+        return false;
+    }
+    if text.len() > LONGEST_LATEX {
+        return false;
+    }
+    are_latex_bytes(text)
+}
+
+/// Whether each byte may stand in a text in LaTeX.
+fn are_latex_bytes(text: &[u8]) -> bool
+    ensures { result ≡ list_all is_latex_byte text.now }
+{
+    text.iter().all(|b| is_latex_byte(*b))
+}
+
+/// Whether the byte is an ASCII character that is printed, or a space.
+fn is_latex_byte(byte: u8) -> bool
+    ensures { result ≡ is_latex_byte byte }
+{
+    (b' '..=b'~').contains(&byte)
+}
+
 impl Latex {
+    /// The text in LaTeX with these bytes. `BadName` comes exactly where they are none. It takes no memory.
+    pub fn new(text: &[u8]) -> Result<Latex, BadName>
+        ensures { MatchResult result (λ latex. (latex ≡ text.now) × (is_latex text.now ≡ true)) (λ _. is_latex text.now ≡ false) }
+    {
+        if !is_latex(text) {
+            return Err(BadName);
+        }
+        let mut kept = InlineBytes::new();
+        kept.extend(text);
+        Ok(Latex { text: kept })
+    }
+
     /// The text.
     pub fn as_bytes(&self) -> &[u8]
         ensures value { result.now ≡ self.now }

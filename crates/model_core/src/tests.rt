@@ -1,7 +1,7 @@
 //! Components and coordinates of a model with two groups, and names, by values counted by hand.
 use crate::{
-    Field, FieldList, Group, GroupList, Leg, Model, Name, RepList, fermion_count, fermion_leg,
-    is_valid, partner, scalar_count, scalar_leg,
+    Field, FieldList, Group, GroupList, Latex, Leg, Model, Name, RepList, fermion_count,
+    fermion_leg, is_valid, partner, scalar_count, scalar_leg,
 };
 use frac128::Frac;
 use std::alloc::Global;
@@ -87,6 +87,24 @@ fn names(rt: HostRuntime) {
     ];
     for (text, good) in rows {
         assert_eq!(rt; Name::new(text).is_ok(), good);
+    }
+}
+
+#[test]
+fn latex_texts(rt: HostRuntime) {
+    let rows: [(&[u8], bool); 9] = [
+        (b"g", true),
+        (b"\\lambda_{1}", true),
+        (b" ~", true),
+        (b"0123456789012345678901234567890123456789", true),
+        (b"01234567890123456789012345678901234567890", false),
+        (b"", false),
+        (b"a\tb", false),
+        (b"\x7f", false),
+        (b"\xc3\xa9", false),
+    ];
+    for (text, good) in rows {
+        assert_eq!(rt; Latex::new(text).is_ok(), good);
     }
 }
 
@@ -181,5 +199,93 @@ fn repeated_names(rt: HostRuntime) -> Result<(), Fail> {
     let mut model = model_of(&rt, rt.alloc())?;
     model.fermions.push(field_of(&rt, rt.alloc(), "g3", 1, Rep::Singlet, Rep::Fund)?)?;
     assert!(rt; !is_valid(rt.alloc(), &model)?);
+    Ok(())
+}
+
+// Two groups, a fermion that is a singlet of the second one, and a scalar that is a singlet of both, with charges.
+fn charged_model(
+    rt: &impl Abort,
+    alloc: Global,
+    sizes: (u32, u32),
+    rep: Rep,
+    charges: (i64, i64),
+    real: bool,
+) -> Result<Model, Fail> {
+    let mut groups = GroupList::new(alloc);
+    groups.push(group_of(rt, "A", sizes.0, "ga"))?;
+    groups.push(group_of(rt, "B", sizes.1, "gb"))?;
+    let mut fermion = field_of(rt, alloc, "e", 2, rep, Rep::Singlet)?;
+    fermion.charge = Frac::whole(charges.0);
+    let mut scalar = field_of(rt, alloc, "S", 1, Rep::Singlet, Rep::Singlet)?;
+    scalar.charge = Frac::whole(charges.1);
+    scalar.real = real;
+    let mut fermions = FieldList::new(alloc);
+    fermions.push(fermion)?;
+    let mut scalars = FieldList::new(alloc);
+    scalars.push(scalar)?;
+    Ok(Model {
+        profile: 1,
+        name: name_of(rt, "M"),
+        groups,
+        fermions,
+        scalars,
+    })
+}
+
+#[test]
+fn charges_under_the_abelian_group(rt: HostRuntime) -> Result<(), Fail> {
+    // The n of both groups, the fermion's representation, the charges, whether the scalar is real, and validity.
+    let rows: [(u32, u32, Rep, i64, i64, bool, bool); 9] = [
+        (1, 2, Rep::Singlet, -1, 1, false, true),
+        (2, 1, Rep::Fund, -1, 1, false, true),
+        (1, 1, Rep::Singlet, -1, 1, false, false),
+        (1, 2, Rep::Fund, -1, 1, false, false),
+        (2, 3, Rep::Fund, 0, 0, false, true),
+        (2, 3, Rep::Fund, 1, 0, false, false),
+        (2, 3, Rep::Fund, 0, 1, false, false),
+        (1, 2, Rep::Singlet, 1, 0, true, true),
+        (1, 2, Rep::Singlet, 1, 1, true, false),
+    ];
+    for (first, second, rep, charge, scalar_charge, real, valid) in rows {
+        let sizes = (first, second);
+        let charges = (charge, scalar_charge);
+        let model = charged_model(&rt, rt.alloc(), sizes, rep, charges, real)?;
+        assert_eq!(rt; is_valid(rt.alloc(), &model)?, valid);
+    }
+    Ok(())
+}
+
+#[test]
+fn components_under_the_abelian_group(rt: HostRuntime) -> Result<(), Fail> {
+    let model = charged_model(&rt, rt.alloc(), (1, 2), Rep::Singlet, (-1, 1), false)?;
+    assert!(rt; is_valid(rt.alloc(), &model)?);
+    assert_eq!(rt; fermion_count(&model), 2);
+    assert_eq!(rt; scalar_count(&model), 3);
+    assert!(rt; 1 < fermion_count(&model));
+    assert_eq!(rt; digits_of(&fermion_leg(&model, 1)), (2, 0));
+    Ok(())
+}
+
+#[test]
+fn a_model_without_groups(rt: HostRuntime) -> Result<(), Fail> {
+    let alloc = rt.alloc();
+    let mut fermions = FieldList::new(alloc);
+    fermions.push(Field {
+        name: name_of(&rt, "nu"),
+        generations: 3,
+        charge: Frac::zero(),
+        reps: RepList::new(alloc),
+        real: false,
+    })?;
+    let model = Model {
+        profile: 1,
+        name: name_of(&rt, "free"),
+        groups: GroupList::new(alloc),
+        fermions,
+        scalars: FieldList::new(alloc),
+    };
+    assert!(rt; is_valid(rt.alloc(), &model)?);
+    assert_eq!(rt; fermion_count(&model), 3);
+    assert_eq!(rt; scalar_count(&model), 1);
     Ok(())
 }

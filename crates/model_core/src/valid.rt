@@ -1,8 +1,8 @@
 //! Which models are valid.
-ghost use Rattle.std.specs.Prelude.{◌≡◌, ◌∷◌, [], ◌++◌, false, true, length, map, IfOk};
+ghost use Rattle.std.specs.Prelude.{◌≡◌, ◌∷◌, [], ◌++◌, ◌&&◌, false, true, length, map, IfOk};
 ghost use Rattle.std.specs.List.{flat_map, list_all, list_any};
 ghost use Rattle.std.specs.Str.{bytes_eq};
-ghost use Rattle.model_core.specs.Valid.{is_between, is_group, is_field, are_groups, are_fields, is_real_rep, is_scalar, are_scalars, has_valid_parts, has_few_components, are_distinct, names_of, group_names, field_name, is_valid};
+ghost use Rattle.model_core.specs.Valid.{is_between, is_abelian, has_one_abelian, is_group, is_rep, are_reps, has_charge_of, is_field, are_groups, are_fields, is_real_rep, is_scalar, are_scalars, has_valid_parts, has_few_components, are_distinct, names_of, group_names, field_name, is_valid};
 
 use crate::component::{component_count, coordinate_count};
 use crate::field::Field;
@@ -20,50 +20,110 @@ fn is_between(low: usize, high: usize, number: usize) -> bool
     low <= number && number <= high
 }
 
-/// Whether n is from 2 to 6.
+/// Whether n is from 1 to 6.
 fn is_group(group: &Group) -> bool
     ensures { result ≡ is_group group.now }
 {
-    is_between(2, 6, group.n as usize)
+    is_between(1, 6, group.n as usize)
 }
 
-/// Whether each n is from 2 to 6.
-fn are_special(groups: &[Group]) -> bool
+/// Whether each n is from 1 to 6.
+fn are_small(groups: &[Group]) -> bool
     ensures { result ≡ list_all is_group groups.now }
 {
     groups.iter().all(|group| is_group(group))
 }
 
-/// Whether there are 1 to 4 groups, each with an n from 2 to 6.
+/// Whether a U(1) is among the groups.
+fn has_abelian(groups: &[Group]) -> bool
+    ensures { result ≡ list_any is_abelian groups.now }
+{
+    groups.iter().any(|group| group.is_abelian())
+}
+
+/// Whether the group is a U(1) and another one is among the groups.
+fn is_second_abelian(group: &Group, groups: &[Group]) -> bool
+    ensures { result ≡ (is_abelian group.now && list_any is_abelian groups.now) }
+{
+    group.is_abelian() && has_abelian(groups)
+}
+
+/// Whether at most one of the groups is a U(1).
+fn has_one_abelian(groups: &[Group]) -> bool
+    ensures { result ≡ has_one_abelian groups.now }
+{
+    match groups {
+        [] => true,
+        [group, groups @ ..] => !is_second_abelian(group, groups) && has_one_abelian(groups),
+    }
+}
+
+/// Whether there are at most 4 groups, each with an n from 1 to 6, and at most one U(1).
 fn are_groups(groups: &[Group]) -> bool
     ensures { result ≡ are_groups groups.now }
 {
-    if !is_between(1, 4, groups.len()) {
+    if groups.len() > 4 {
         return false;
     }
-    are_special(groups)
+    if !are_small(groups) {
+        return false;
+    }
+    has_one_abelian(groups)
 }
 
-/// Whether a field has 1 to 6 generations and a representation for each of so many groups.
-fn is_field(groups: usize, field: &Field) -> bool
-    ensures { result ≡ is_field groups field.now }
+/// Whether a field may have the representation under the group: under the U(1) only the singlet.
+fn is_rep(group: &Group, rep: Rep) -> bool
+    ensures { result ≡ is_rep group.now rep }
+{
+    match rep {
+        Rep::Singlet => true,
+        _ => !group.is_abelian(),
+    }
+}
+
+/// Whether there is a representation for each group, the singlet for the U(1).
+fn are_reps(groups: &[Group], reps: &[Rep]) -> bool
+    ensures { result ≡ are_reps groups.now reps.now }
+{
+    match groups {
+        [] => reps.is_empty(),
+        [group, groups @ ..] => match reps {
+            [] => false,
+            [rep, reps @ ..] => is_rep(group, *rep) && are_reps(groups, reps),
+        },
+    }
+}
+
+/// Whether the field has no charge, or a U(1) that gives it one.
+fn has_charge_of(groups: &[Group], field: &Field) -> bool
+    ensures { result ≡ has_charge_of groups.now field.now }
+{
+    has_abelian(groups) || field.charge == Frac::zero()
+}
+
+/// Whether a field has 1 to 6 generations, a representation for each group, and a charge only under a U(1).
+fn is_field(groups: &[Group], field: &Field) -> bool
+    ensures { result ≡ is_field groups.now field.now }
 {
     if !is_between(1, 6, field.generations as usize) {
         return false;
     }
-    field.reps.len() == groups
+    if !are_reps(groups, field.reps.as_slice()) {
+        return false;
+    }
+    has_charge_of(groups, field)
 }
 
-/// Whether each field has 1 to 6 generations and a representation for each of so many groups.
-fn are_complete(groups: usize, fields: &[Field]) -> bool
-    ensures { result ≡ list_all (is_field groups) fields.now }
+/// Whether each field is as it must be.
+fn are_complete(groups: &[Group], fields: &[Field]) -> bool
+    ensures { result ≡ list_all (is_field groups.now) fields.now }
 {
     fields.iter().all(|field| is_field(groups, field))
 }
 
 /// Whether there are at most 24 fermions, each of them as it must be.
-fn are_fields(groups: usize, fields: &[Field]) -> bool
-    ensures { result ≡ are_fields groups fields.now }
+fn are_fields(groups: &[Group], fields: &[Field]) -> bool
+    ensures { result ≡ are_fields groups.now fields.now }
 {
     if fields.len() > 24 {
         return false;
@@ -80,8 +140,8 @@ fn are_real(reps: &[Rep]) -> bool
 }
 
 /// Whether a scalar is as a field must be and, where it is real, has no charge and real representations.
-fn is_scalar(groups: usize, field: &Field) -> bool
-    ensures { result ≡ is_scalar groups field.now }
+fn is_scalar(groups: &[Group], field: &Field) -> bool
+    ensures { result ≡ is_scalar groups.now field.now }
 {
     if !is_field(groups, field) {
         return false;
@@ -96,15 +156,15 @@ fn is_scalar(groups: usize, field: &Field) -> bool
 }
 
 /// Whether each scalar is as it must be.
-fn are_all_scalars(groups: usize, fields: &[Field]) -> bool
-    ensures { result ≡ list_all (is_scalar groups) fields.now }
+fn are_all_scalars(groups: &[Group], fields: &[Field]) -> bool
+    ensures { result ≡ list_all (is_scalar groups.now) fields.now }
 {
     fields.iter().all(|field| is_scalar(groups, field))
 }
 
 /// Whether there are at most 12 scalars, each of them as it must be.
-fn are_scalars(groups: usize, fields: &[Field]) -> bool
-    ensures { result ≡ are_scalars groups fields.now }
+fn are_scalars(groups: &[Group], fields: &[Field]) -> bool
+    ensures { result ≡ are_scalars groups.now fields.now }
 {
     if fields.len() > 12 {
         return false;
@@ -116,13 +176,14 @@ fn are_scalars(groups: usize, fields: &[Field]) -> bool
 fn has_valid_parts(model: &Model) -> bool
     ensures { result ≡ has_valid_parts model.now }
 {
-    if !are_groups(model.groups.as_slice()) {
+    let groups = model.groups.as_slice();
+    if !are_groups(groups) {
         return false;
     }
-    if !are_fields(model.groups.len(), model.fermions.as_slice()) {
+    if !are_fields(groups, model.fermions.as_slice()) {
         return false;
     }
-    are_scalars(model.groups.len(), model.scalars.as_slice())
+    are_scalars(groups, model.scalars.as_slice())
 }
 
 /// Whether there are at most 512 fermion components and 256 scalar coordinates without the dummy.
@@ -188,10 +249,11 @@ fn are_distinct(names: &[Name]) -> bool
     }
 }
 
-/// Whether a model is valid: 1 to 4 groups SU(n) with n from 2 to 6; at most 24 fermion fields with 1 to 6 generations
-/// and a representation for each group; at most 12 such scalars, of which the real ones have no charge and are singlets
-/// or in the adjoint representation; at most 512 fermion components and 256 scalar coordinates without the dummy; and
-/// distinct names of groups, couplings and fields. Only want of memory is an error.
+/// Whether a model is valid: at most 4 groups, each the U(1) or SU(n) with n from 2 to 6, and at most one U(1); at most
+/// 24 fermion fields with 1 to 6 generations, a representation for each group, which is the singlet for the U(1), and a
+/// charge only under a U(1); at most 12 such scalars, of which the real ones have no charge and are singlets or in the
+/// adjoint representation; at most 512 fermion components and 256 scalar coordinates without the dummy; and distinct
+/// names of groups, couplings and fields. Only want of memory is an error.
 pub fn is_valid(alloc: Global, model: &Model) -> Result<bool, AllocError>
     ensures { IfOk result (λ valid. valid ≡ is_valid model.now) }
 {

@@ -1,5 +1,4 @@
-use Rattle.std.proofs.Common.{◌≡◌, ◌≤◌, ◌<◌, ◌+◌, ◌*◌, ◌/◌, ◌%◌, ◌^◌, length, arith, sym}
-use Rattle.model_core.specs.Component.{tuples}
+use Rattle.std.proofs.Common.{arith}
 use Rattle.model_core.proofs.PairLaws.{swapped_step, swapped_small, tuples_fit}
 use Rattle.model_core.proofs.component.+swapped_place.Goals as goal
 

@@ -1,5 +1,4 @@
-use Rattle.std.proofs.Common.{◌≡◌, ◌<◌, ◌≤◌, ◌+◌, ◌-◌, ◌∷◌, [], length, length-append, map, take, get_or, Some, ap, ap₂, sym, subst, ◌∙◌, arith}
-use Rattle.std.specs.Prelude.{slice_get}
+use Rattle.std.proofs.Common.{◌≡◌, ◌<◌, ◌+◌, ◌-◌, ◌∷◌, [], length, length-append, map, take, get_or, ap, ap₂, sym, subst, ◌∙◌, arith}
 use Rattle.std.specs.List.{flat_map}
 use Rattle.std.proofs.lemmas.List.{length-map, take_all}
 use Rattle.std.proofs.lemmas.List.Folds.{length-flat_map-take}
@@ -16,14 +15,14 @@ pub scalar_count_of-count-requires-clause-generations : goal.scalar_count_of-cou
 scalar_count_of-count-requires-clause-generations c =
     let model = c.args.model.now in
     let items : c.as_slice-field-items.result.now ≡ model.scalars = c.as_slice-field-items.ensures in
-    scalar_generations (length model.groups) model.scalars c.loop-field.field-index c.field-item.result c.field-item.result (parts_scalars model (valid_parts model c.requires.valid)) (omega (arith, ap length items, c.loop-field-test.true)) (c.field-item.is ∙ ap (λ fs. get_or fs c.loop-field.field-index c.field-item.result) items)
+    scalar_generations model.groups model.scalars c.loop-field.field-index c.field-item.result c.field-item.result (parts_scalars model (valid_parts model c.requires.valid)) (omega (arith, ap length items, c.loop-field-test.true)) (c.field-item.is ∙ ap (λ fs. get_or fs c.loop-field.field-index c.field-item.result) items)
 
 pub partner_in-requires-clause-scalar : goal.partner_in-requires-clause-scalar
 partner_in-requires-clause-scalar c =
     let model = c.args.model.now in
     let items : c.as_slice-field-items.result.now ≡ model.scalars = c.as_slice-field-items.ensures in
-    ap (λ gs. is_scalar (length gs) c.field-item.result) c.as_slice-groups.ensures
-    ∙ scalar_passes (length model.groups) model.scalars c.loop-field.field-index c.field-item.result c.field-item.result (parts_scalars model (valid_parts model c.requires.valid)) (omega (arith, ap length items, c.loop-field-test.true)) (c.field-item.is ∙ ap (λ fs. get_or fs c.loop-field.field-index c.field-item.result) items)
+    ap (λ gs. is_scalar gs c.field-item.result) c.as_slice-groups.ensures
+    ∙ scalar_passes model.groups model.scalars c.loop-field.field-index c.field-item.result c.field-item.result (parts_scalars model (valid_parts model c.requires.valid)) (omega (arith, ap length items, c.loop-field-test.true)) (c.field-item.is ∙ ap (λ fs. get_or fs c.loop-field.field-index c.field-item.result) items)
 
 pub overflow_add-result : goal.overflow_add-result
 overflow_add-result c =

@@ -1,4 +1,4 @@
-use Rattle.std.proofs.Common.{◌≡◌, ◌≤◌, ◌<◌, ◌*◌, ◌/◌, ◌%◌, ◌+◌, false, length, ap, sym, ◌∙◌, arith}
+use Rattle.std.proofs.Common.{◌≡◌, ◌≤◌, ◌<◌, ◌*◌, ◌%◌, false, length, ap, sym, ◌∙◌, arith}
 use Rattle.model_core.specs.Component.{slot_sizes, tuples, copies_of}
 use Rattle.model_core.specs.Place.{tuple_at, are_pairs}
 use Rattle.model_core.specs.Scalar.{swapped_pairs}

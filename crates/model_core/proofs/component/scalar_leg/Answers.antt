@@ -1,4 +1,4 @@
-use Rattle.std.proofs.Common.{◌≡◌, ◌<◌, ◌≤◌, ◌+◌, ◌++◌, ◌∷◌, [], length, length-append, map, take, get_or, Some, ap, ap₂, sym, ◌∙◌, arith}
+use Rattle.std.proofs.Common.{◌≡◌, ◌<◌, ◌+◌, ◌∷◌, [], length, length-append, map, take, get_or, Some, ap, ap₂, sym, ◌∙◌, arith}
 use Rattle.std.specs.Prelude.{slice_get}
 use Rattle.std.specs.List.{flat_map}
 use Rattle.std.proofs.lemmas.List.{length-map, take_all}
@@ -6,7 +6,6 @@ use Rattle.exact_algebra.specs.Blocks.{slice_get-append_left}
 use Rattle.model_core.specs.declared.leg.Leg.TheVariants.{Dummy}
 use Rattle.model_core.specs.Leg.{scalar_leg_of}
 use Rattle.model_core.specs.Scalar.{coordinates_of, scalar_components}
-use Rattle.model_core.specs.Scalar.{Coordinate}
 use Rattle.model_core.specs.Scalar.Coordinate.{Scalar}
 use Rattle.model_core.specs.Scalar.Coordinate.{Dummy as NoField}
 use Rattle.model_core.proofs.CountLaws.{image_at}
@@ -18,13 +17,13 @@ pub scalar_count_of-count-requires-clause-generations : goal.scalar_count_of-cou
 scalar_count_of-count-requires-clause-generations c =
     let model = c.args.model.now in
     let items : c.as_slice-field-items.result.now ≡ model.scalars = c.as_slice-field-items.ensures in
-    scalar_generations (length model.groups) model.scalars c.loop-field.field-index c.field-item.result c.field-item.result (parts_scalars model (valid_parts model c.requires.valid)) (omega (arith, ap length items, c.loop-field-test.true)) (c.field-item.is ∙ ap (λ fs. get_or fs c.loop-field.field-index c.field-item.result) items)
+    scalar_generations model.groups model.scalars c.loop-field.field-index c.field-item.result c.field-item.result (parts_scalars model (valid_parts model c.requires.valid)) (omega (arith, ap length items, c.loop-field-test.true)) (c.field-item.is ∙ ap (λ fs. get_or fs c.loop-field.field-index c.field-item.result) items)
 
 pub scalar_leg_at-requires-clause-generations : goal.scalar_leg_at-requires-clause-generations
 scalar_leg_at-requires-clause-generations c =
     let model = c.args.model.now in
     let items : c.as_slice-field-items.result.now ≡ model.scalars = c.as_slice-field-items.ensures in
-    scalar_generations (length model.groups) model.scalars c.loop-field.field-index c.field-item.result c.field-item.result (parts_scalars model (valid_parts model c.requires.valid)) (omega (arith, ap length items, c.loop-field-test.true)) (c.field-item.is ∙ ap (λ fs. get_or fs c.loop-field.field-index c.field-item.result) items)
+    scalar_generations model.groups model.scalars c.loop-field.field-index c.field-item.result c.field-item.result (parts_scalars model (valid_parts model c.requires.valid)) (omega (arith, ap length items, c.loop-field-test.true)) (c.field-item.is ∙ ap (λ fs. get_or fs c.loop-field.field-index c.field-item.result) items)
 
 pub returns-then-rest-count : goal.returns-then-rest-count
 returns-then-rest-count c =

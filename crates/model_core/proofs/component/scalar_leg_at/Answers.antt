@@ -1,5 +1,3 @@
-use Rattle.std.proofs.Common.{◌≡◌, ◌<◌, ◌≤◌, false, length, arith}
-use Rattle.model_core.specs.Component.{copies_of}
 use Rattle.model_core.specs.Leg.{scalar_leg_of}
 use Rattle.model_core.proofs.ScalarLaws.{plain_at, conjugate_at, conjugate_within}
 use Rattle.model_core.proofs.component.scalar_leg_at.Goals as goal
