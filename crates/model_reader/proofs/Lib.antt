@@ -1,4 +1,9 @@
 pub mod Documents
-pub mod Limits
+pub mod Firsts
+pub mod Literals
+pub mod Mapped
 pub mod Members
-pub mod NoReps
+pub mod Readings
+pub mod ScalarPlaces
+pub mod TableLaws
+pub mod ValidParts

@@ -1,30 +1,65 @@
 //! Groups.
-ghost use Rattle.std.specs.Prelude.{◌≡◌, IfOk, option_and_then, codes};
-ghost use Rattle.toml.specs.Data.{as_table};
-ghost use Rattle.toml.specs.View.{view, table_view, array_view};
-ghost use Rattle.model_core.specs.Document.{at_key, group_in, tables_of, tables_in};
-ghost use Rattle.model_reader.specs.Reads.{group_count};
+ghost use Rattle.std.specs.Prelude.{◌≡◌, ◌++◌, [], true, false, ◌&&◌, map, length, ◌<◌, ◌≤◌, IfOk};
+ghost use Rattle.std.specs.List.{flat_map, list_any};
+ghost use Rattle.toml.specs.View.{table_view};
+ghost use Rattle.model_core.specs.Valid.{group_names, is_abelian, is_group, are_groups, are_distinct};
+ghost use Rattle.model_core.specs.Document.{group_of};
+ghost use Rattle.model_core.specs.Walk.{group_places, key_places, group_keys, value_places, key_place, places_after};
+ghost use Rattle.model_reader.specs.Tables.{table_views};
+ghost use Rattle.model_reader.specs.Walked.{Walked, Passes};
+ghost use Rattle.model_reader.specs.Required.{HasValues};
 
-use crate::keys::{keys_are_among, value_at};
-use crate::values::{name_at, number_at};
-use model_core::{Group, GroupList};
-use std::alloc::{AllocError, Global};
-use toml::value::Array;
+use crate::error::ReadError;
+use crate::keys::{only_keys, required};
+use crate::names::Names;
+use crate::values::{dimension, latex_or, new_name};
+use model_core::{FaultPlace, Group, GroupList, Part};
+use std::alloc::Global;
 use toml::{Table, Value};
 
-/// The group that a table is.
-#[tactic(auto, unfolding(model_core::specs::Document::group_in))]
-fn group_in(table: &Table) -> Option<Group>
-    ensures { result ≡ group_in (table_view table.now) }
+/// The values of the keys that a group has to have.
+#[derive(Clone, Copy)]
+struct GroupValues<'a> {
+    name: &'a Value,
+    n: &'a Value,
+    coupling: &'a Value,
+}
+
+/// Asks that a group has the keys that it has to have, and no others than it may have.
+fn group_values<'a>(place: FaultPlace, table: &'a Table) -> Result<GroupValues<'a>, ReadError>
+    ensures walked { Passes (key_places place (group_keys [] (table_view table.now)) (table_view table.now)) result }
+    ensures values { IfOk result (λ values. HasValues (table_view table.now) values) }
 {
-    if !keys_are_among(table, &["name", "n", "coupling"]) {
-        return None;
-    }
-    let name = name_at(table, "name")?;
-    let n = number_at(2, 6, table, "n")?;
-    let coupling = name_at(table, "coupling")?;
-    let latex = coupling.to_latex();
-    Some(Group {
+    only_keys(place, table, &["name", "n", "coupling", "latex"])?;
+    let name = required(place.key(1), table, "name")?;
+    let n = required(place.key(2), table, "n")?;
+    let coupling = required(place.key(3), table, "coupling")?;
+    Ok(GroupValues { name, n, coupling })
+}
+
+/// The group with these values, after earlier ones whose names were met.
+#[tactic(auto, using(crate::proofs::Firsts::first_before), unfolding(model_core::specs::Document::group_of))]
+fn group_with(
+    place: FaultPlace,
+    earlier: &GroupList,
+    names: &mut Names,
+    values: &GroupValues,
+    table: &Table,
+) -> Result<Group, ReadError>
+    requires names { names.old ≡ flat_map group_names earlier.now }
+    requires distinct { are_distinct names.old ≡ true }
+    requires values { HasValues (table_view table.now) values.now }
+    ensures walked { Walked (λ group. group) (value_places (key_place place 1) (group_keys earlier.now (table_view table.now)) (table_view table.now)) (group_of (table_view table.now)) result }
+    ensures added { IfOk result (λ group. names.new ≡ names.old ++ group_names group) }
+    ensures distinct { IfOk result (λ _. are_distinct names.new ≡ true) }
+    ensures valid { IfOk result (λ group. is_group group ≡ true) }
+    ensures single { IfOk result (λ group. (is_abelian group && list_any is_abelian earlier.now) ≡ false) }
+{
+    let name = new_name(place.key(1), names, values.name)?;
+    let n = dimension(place.key(2), earlier.as_slice(), values.n)?;
+    let coupling = new_name(place.key(3), names, values.coupling)?;
+    let latex = latex_or(place.key(4), table, &coupling)?;
+    Ok(Group {
         name,
         n,
         coupling,
@@ -32,53 +67,41 @@ fn group_in(table: &Table) -> Option<Group>
     })
 }
 
-/// The group that an element of the array of groups is.
-fn group_of(value: &Value) -> Option<Group>
-    ensures { result ≡ option_and_then group_in (as_table (view value.now)) }
+/// The group that a table is, after earlier ones whose names were met.
+#[tactic(auto, using(crate::proofs::Firsts::first_before), unfolding(model_core::specs::Walk::group_places))]
+fn group_of(earlier: &GroupList, names: &mut Names, table: &Table) -> Result<Group, ReadError>
+    requires few { length earlier.now < 4 }
+    requires names { names.old ≡ flat_map group_names earlier.now }
+    requires distinct { are_distinct names.old ≡ true }
+    ensures walked { Walked (λ group. group) (group_places earlier.now (table_view table.now)) (group_of (table_view table.now)) result }
+    ensures added { IfOk result (λ group. names.new ≡ names.old ++ group_names group) }
+    ensures distinct { IfOk result (λ _. are_distinct names.new ≡ true) }
+    ensures valid { IfOk result (λ group. is_group group ≡ true) }
+    ensures single { IfOk result (λ group. (is_abelian group && list_any is_abelian earlier.now) ≡ false) }
 {
-    match value.as_table() {
-        Some(table) => group_in(table),
-        None => None,
-    }
+    let place = FaultPlace::new(Part::Group, earlier.len() as u32 + 1);
+    let values = group_values(place, table)?;
+    group_with(place, earlier, names, &values, table)
 }
 
-/// The groups that an array is.
-fn groups_of(alloc: Global, array: &Array) -> Result<Option<GroupList>, AllocError>
-    ensures { IfOk result (λ found. found ≡ tables_of group_in (array_view array.now)) }
+/// The groups that tables are. Their names are the first that are met.
+#[tactic(auto, using(crate::proofs::Firsts::first_before, crate::proofs::ValidParts::list_all_push, crate::proofs::ValidParts::abelian_push))]
+pub fn groups_of(
+    alloc: Global,
+    names: &mut Names,
+    tables: &[&Table],
+) -> Result<GroupList, ReadError>
+    requires few { length tables.now ≤ 4 }
+    requires names { names.old ≡ [] }
+    ensures walked { Walked (λ groups. groups) (places_after group_places group_of [] (table_views tables.now)) (map group_of (table_views tables.now)) result }
+    ensures added { IfOk result (λ groups. names.new ≡ flat_map group_names groups) }
+    ensures distinct { IfOk result (λ _. are_distinct names.new ≡ true) }
+    ensures valid { IfOk result (λ groups. are_groups groups ≡ true) }
 {
     let mut groups = GroupList::new(alloc);
-    for value in array {
-        let Some(group) = group_of(value) else {
-            return Ok(None);
-        };
+    for table in tables {
+        let group = group_of(&groups, names, table)?;
         groups.push(group)?;
     }
-    Ok(Some(groups))
-}
-
-/// The number of elements of the array of groups, 0 where there is no array.
-#[tactic(auto, using(crate::proofs::Limits::item_count_of_values))]
-pub fn group_count(table: &Table) -> usize
-    ensures { result ≡ group_count (table_view table.now) }
-{
-    let Some(value) = value_at(table, "group") else {
-        return 0;
-    };
-    match value.as_array() {
-        Some(array) => array.len(),
-        None => 0,
-    }
-}
-
-/// The groups of a document.
-pub fn groups_at(alloc: Global, table: &Table) -> Result<Option<GroupList>, AllocError>
-    ensures { IfOk result (λ found. found ≡ at_key (tables_in group_in) (codes "group") (table_view table.now)) }
-{
-    let Some(value) = value_at(table, "group") else {
-        return Ok(None);
-    };
-    let Some(array) = value.as_array() else {
-        return Ok(None);
-    };
-    groups_of(alloc, array)
+    Ok(groups)
 }

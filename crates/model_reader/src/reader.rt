@@ -1,52 +1,38 @@
 //! From the bytes of a file to its model.
-ghost use Rattle.std.specs.Prelude.{◌≡◌, IfOk, IfSome};
-ghost use Rattle.toml.specs.View.{table_view};
-ghost use Rattle.model_core.specs.Document.{model_in, first_form, reading, file_fault};
-ghost use Rattle.model_core.specs.Valid.{IsValid};
+ghost use Rattle.std.specs.Prelude.{◌≡◌, ◌++◌, ◌≤◌, Some, IfOk, length, map, true, codes};
+ghost use Rattle.std.specs.List.{flat_map};
+ghost use Rattle.toml.specs.Data.{get_member};
+ghost use Rattle.toml.specs.View.{view, table_view};
+ghost use Rattle.model_core.specs.Component.{components_of};
+ghost use Rattle.model_core.specs.Scalar.{coordinates_of};
+ghost use Rattle.model_core.specs.Valid.{IsValid, are_groups, are_fields, are_scalars, are_distinct, field_name};
+ghost use Rattle.model_core.specs.Document.{number_of, text_of, tables_at, group_of, fermion_of, scalar_of, model_of};
+ghost use Rattle.model_core.specs.Walk.{place_of, key_place, key_places, value_places, file_keys, part_keys, integer_places, name_places, over_limit, fermions_places, scalars_places, part_places, bad_places};
+ghost use Rattle.model_core.specs.Reading.{reading};
 ghost use Rattle.model_reader.specs.Gives.{Gives};
-ghost use Rattle.model_reader.specs.Reads.{document_or_fault};
-ghost use Rattle.model_reader.specs.declared.reader.ReadError.TheVariants.{NoMemory};
+ghost use Rattle.model_reader.specs.Parts.{document_or_fault, HasHead, part_lists, ArePartsFew, model_with, places_of};
+ghost use Rattle.model_reader.specs.Walked.{Walked, Passes};
+ghost use Rattle.model_reader.specs.Tables.{table_views};
 
-use crate::fermions::fermions_at;
-use crate::groups::{group_count, groups_at};
-use crate::keys::keys_are_among;
-use crate::values::{name_at, number_at};
-use model_core::{FieldList, Model, Part, ReadFault, ReadKind, is_valid};
-use std::alloc::{AllocError, Global};
-use toml::Table;
+use crate::error::{ReadError, refused};
+use crate::fields::{fermions_of, scalars_of};
+use crate::groups::groups_of;
+use crate::keys::{only_keys, required};
+use crate::names::Names;
+use crate::tables::{tables_at, unbuilt_tables};
+use crate::values::{name, profile};
+use model_core::{
+    FaultPlace, FieldList, GroupList, Model, Name, Part, ReadKind, component_count,
+    coordinate_count,
+};
+use std::alloc::Global;
+use toml::{Table, Value};
 
-/// Why a file has no model.
-#[derive(Clone, Copy, Debug)]
-pub enum ReadError {
-    /// What is wrong in the file, and where.
-    Fault(ReadFault),
-    /// Memory ran out, which says nothing of the file.
-    NoMemory,
-}
+/// The most fermion components of a model.
+const MOST_COMPONENTS: u32 = 512;
 
-impl From<AllocError> for ReadError {
-    ghost from_gives = { λ _ e. e ≡ NoMemory };
-
-    fn from(_: AllocError) -> ReadError {
-        ReadError::NoMemory
-    }
-}
-
-/// The most groups of a valid model.
-const MOST_GROUPS: usize = 4;
-
-/// A fault of the file itself.
-fn file_fault(kind: ReadKind) -> ReadFault
-    ensures { result ≡ file_fault kind }
-{
-    ReadFault {
-        kind,
-        part: Part::File,
-        index: 0,
-        at: 0,
-        count: 0,
-    }
-}
+/// The most scalar coordinates of a model, without the dummy.
+const MOST_COORDINATES: u32 = 256;
 
 /// The document that the bytes are.
 fn document(alloc: Global, bytes: &[u8]) -> Result<Table, ReadError>
@@ -58,72 +44,171 @@ fn document(alloc: Global, bytes: &[u8]) -> Result<Table, ReadError>
             if error.is_memory() {
                 return Err(ReadError::NoMemory);
             }
-            Err(ReadError::Fault(file_fault(ReadKind::NotToml)))
+            refused(FaultPlace::new(Part::File, 0), ReadKind::NotToml)
         }
     }
 }
 
-/// The model that a document names, valid or not.
-#[tactic(auto, unfolding(model_core::specs::Document::model_in))]
-fn model_in(alloc: Global, table: &Table) -> Result<Option<Model>, AllocError>
-    ensures { IfOk result (λ found. found ≡ model_in (table_view table.now)) }
+/// The values of the keys that a file has to have.
+#[derive(Clone, Copy)]
+struct FileValues<'a> {
+    profile: &'a Value,
+    name: &'a Value,
+}
+
+/// Asks that a file has the keys that it has to have, and no others than it may have.
+fn file_values<'a>(place: FaultPlace, file: &'a Table) -> Result<FileValues<'a>, ReadError>
+    ensures walked { Passes (key_places place file_keys (table_view file.now)) result }
+    ensures values { IfOk result (λ values. HasHead (table_view file.now) values) }
 {
-    if !keys_are_among(table, &["profile", "name", "group", "fermion"]) {
-        return Ok(None);
+    only_keys(
+        place,
+        file,
+        &[
+            "profile", "name", "group", "fermion", "scalar", "table", "term",
+        ],
+    )?;
+    let profile = required(place.key(1), file, "profile")?;
+    let name = required(place.key(2), file, "name")?;
+    Ok(FileValues { profile, name })
+}
+
+/// The tables of a file's groups, fermions and scalars.
+#[derive(Drop)]
+struct PartTables<'a> {
+    groups: Vec<&'a Table>,
+    fermions: Vec<&'a Table>,
+    scalars: Vec<&'a Table>,
+}
+
+/// The tables of a file's parts. Those of tables and terms aren't built yet.
+#[tactic(auto, using(crate::proofs::Firsts::first_before))]
+fn part_tables<'a>(
+    alloc: Global,
+    place: FaultPlace,
+    file: &'a Table,
+) -> Result<PartTables<'a>, ReadError>
+    ensures walked { Walked part_lists (value_places (key_place place 3) part_keys (table_view file.now))
+        (tables_at (codes "group") (table_view file.now), (tables_at (codes "fermion") (table_view file.now), tables_at (codes "scalar") (table_view file.now))) result }
+    ensures few { IfOk result (λ parts. ArePartsFew parts) }
+{
+    let groups = tables_at(alloc, place.key(3), 4, file, "group")?;
+    let fermions = tables_at(alloc, place.key(4), 24, file, "fermion")?;
+    let scalars = tables_at(alloc, place.key(5), 12, file, "scalar")?;
+    unbuilt_tables(place.key(6), file, "table")?;
+    unbuilt_tables(place.key(7), file, "term")?;
+    Ok(PartTables {
+        groups,
+        fermions,
+        scalars,
+    })
+}
+
+/// Asks that a part doesn't have more components than a model may have.
+fn few_components(part: Part, limit: u32, count: u32) -> Result<(), ReadError>
+    ensures walked { Passes (over_limit limit count (place_of part 0 0)) result }
+    ensures few { IfOk result (λ _. count ≤ limit) }
+{
+    if count > limit {
+        return Err(ReadError::Fault(FaultPlace::new(part, 0).over(count as usize)));
     }
-    let Some(profile) = number_at(1, 1, table, "profile") else {
-        return Ok(None);
-    };
-    let Some(name) = name_at(table, "name") else {
-        return Ok(None);
-    };
-    let Some(groups) = groups_at(alloc, table)? else {
-        return Ok(None);
-    };
-    let Some(fermions) = fermions_at(alloc, &groups, table)? else {
-        return Ok(None);
-    };
-    Ok(Some(Model {
+    Ok(())
+}
+
+/// The fermions that tables are, with no more components than a model may have.
+#[tactic(auto, using(crate::proofs::Firsts::first_before), unfolding(model_core::specs::Walk::fermions_places))]
+fn limited_fermions(
+    alloc: Global,
+    groups: &GroupList,
+    names: &mut Names,
+    tables: &[&Table],
+) -> Result<FieldList, ReadError>
+    requires groups { are_groups groups.now ≡ true }
+    requires distinct { are_distinct names.old ≡ true }
+    requires few { length tables.now ≤ 24 }
+    ensures walked { Walked (λ fields. fields) (fermions_places groups.now names.old (table_views tables.now)) (map (fermion_of groups.now) (table_views tables.now)) result }
+    ensures added { IfOk result (λ fields. names.new ≡ names.old ++ map field_name fields) }
+    ensures distinct { IfOk result (λ _. are_distinct names.new ≡ true) }
+    ensures valid { IfOk result (λ fields. are_fields groups.now fields ≡ true) }
+    ensures few { IfOk result (λ fields. length (flat_map (components_of groups.now) fields) ≤ 512) }
+{
+    let fermions = fermions_of(alloc, groups, names, tables)?;
+    let count = component_count(groups.as_slice(), fermions.as_slice());
+    few_components(Part::Fermion, MOST_COMPONENTS, count)?;
+    Ok(fermions)
+}
+
+/// The scalars that tables are, with no more coordinates than a model may have.
+#[tactic(auto, using(crate::proofs::Firsts::first_before), unfolding(model_core::specs::Walk::scalars_places))]
+fn limited_scalars(
+    alloc: Global,
+    groups: &GroupList,
+    names: &mut Names,
+    tables: &[&Table],
+) -> Result<FieldList, ReadError>
+    requires groups { are_groups groups.now ≡ true }
+    requires distinct { are_distinct names.old ≡ true }
+    requires few { length tables.now ≤ 12 }
+    ensures walked { Walked (λ fields. fields) (scalars_places groups.now names.old (table_views tables.now)) (map (scalar_of groups.now) (table_views tables.now)) result }
+    ensures added { IfOk result (λ fields. names.new ≡ names.old ++ map field_name fields) }
+    ensures distinct { IfOk result (λ _. are_distinct names.new ≡ true) }
+    ensures valid { IfOk result (λ fields. are_scalars groups.now fields ≡ true) }
+    ensures few { IfOk result (λ fields. length (flat_map (coordinates_of groups.now) fields) ≤ 256) }
+{
+    let scalars = scalars_of(alloc, groups, names, tables)?;
+    let count = coordinate_count(groups.as_slice(), scalars.as_slice());
+    few_components(Part::Scalar, MOST_COORDINATES, count)?;
+    Ok(scalars)
+}
+
+/// The model with these tables of parts.
+#[tactic(auto, using(crate::proofs::Firsts::first_before), unfolding(model_core::specs::Walk::part_places))]
+fn model_with(
+    alloc: Global,
+    profile: u32,
+    name: Name,
+    parts: &PartTables,
+) -> Result<Model, ReadError>
+    requires { ArePartsFew parts.now }
+    ensures walked { Walked (λ model. model) (places_of (part_lists parts.now)) (model_with profile name (part_lists parts.now)) result }
+    ensures valid { IfOk result (λ model. IsValid model) }
+{
+    let mut names = Names::new(alloc);
+    let groups = groups_of(alloc, &mut names, parts.groups.as_slice())?;
+    let fermions = limited_fermions(alloc, &groups, &mut names, parts.fermions.as_slice())?;
+    let scalars = limited_scalars(alloc, &groups, &mut names, parts.scalars.as_slice())?;
+    Ok(Model {
         profile,
         name,
         groups,
         fermions,
-        scalars: FieldList::new(alloc),
-    }))
+        scalars,
+    })
 }
 
-/// The model of a document of the first form. A document with more groups than a valid model has is
-/// refused before its fields are read, so that the work grows with the length of the file alone.
-#[tactic(auto, using(crate::proofs::Limits::too_many_groups))]
-fn first_form(alloc: Global, table: &Table) -> Result<Option<Model>, AllocError>
-    ensures value { IfOk result (λ found. found ≡ first_form (table_view table.now)) }
-    ensures valid { IfOk result (λ found. IfSome found (λ model. IsValid model)) }
+/// The model that a document names.
+#[tactic(auto, using(crate::proofs::Firsts::first_before), unfolding(model_core::specs::Walk::bad_places, model_core::specs::Document::model_of))]
+fn model_of(alloc: Global, file: &Table) -> Result<Model, ReadError>
+    ensures walked { Walked (λ model. model) (bad_places (table_view file.now)) (model_of (table_view file.now)) result }
+    ensures valid { IfOk result (λ model. IsValid model) }
 {
-    if group_count(table) > MOST_GROUPS {
-        return Ok(None);
-    }
-    let Some(model) = model_in(alloc, table)? else {
-        return Ok(None);
-    };
-    if !is_valid(alloc, &model)? {
-        return Ok(None);
-    }
-    Ok(Some(model))
+    let place = FaultPlace::new(Part::File, 0);
+    let values = file_values(place, file)?;
+    let profile = profile(place.key(1), values.profile)?;
+    let name = name(place.key(2), values.name)?;
+    let parts = part_tables(alloc, place, file)?;
+    model_with(alloc, profile, name, &parts)
 }
 
-/// The model that the bytes of a file stand for.
+/// The model that the bytes of a file stand for, which is valid.
 ///
-/// The fault is `NotToml` exactly where the bytes are no TOML document, and `Unbuilt` exactly where
-/// the document names no valid model of the form that is read: groups SU(n), and fermions that are
-/// singlets or in the fundamental representation or its conjugate. Every model that comes is valid.
-#[tactic(auto, unfolding(model_core::specs::Document::reading))]
+/// The fault is `NotToml` at the file exactly where the bytes are no TOML document, and else the document's first bad place
+/// in the order of the walk: the file's own table, then groups, fermions and scalars in file order.
+#[tactic(auto, unfolding(model_core::specs::Reading::reading), using(crate::proofs::Readings::reading_of_walked))]
 pub fn read_model(alloc: Global, bytes: &[u8]) -> Result<Model, ReadError>
     ensures value { Gives (λ model. model) result (reading bytes.now) }
     ensures valid { IfOk result (λ model. IsValid model) }
 {
-    let table = document(alloc, bytes)?;
-    match first_form(alloc, &table)? {
-        Some(model) => Ok(model),
-        None => Err(ReadError::Fault(file_fault(ReadKind::Unbuilt))),
-    }
+    let file = document(alloc, bytes)?;
+    model_of(alloc, &file)
 }

@@ -1,116 +1,244 @@
-//! Values of a table in one of the forms that a model file has.
-ghost use Rattle.std.specs.Prelude.{◌≡◌, codes};
+//! The values at keys, each in its form.
+ghost use Rattle.std.specs.Prelude.{◌≡◌, ◌∷◌, [], ◌++◌, true, false, ◌&&◌, ◌||◌, not, ◌==◌, IfOk, codes};
+ghost use Rattle.std.specs.List.{list_any, list_all};
+ghost use Rattle.std.specs.Str.{bytes_eq};
+ghost use Rattle.toml.specs.Data.{integer, get_member};
 ghost use Rattle.toml.specs.View.{view, table_view};
-ghost use Rattle.model_core.specs.Document.{at_key, at_key_or, name_in, checked_number, number_in, checked_rep, rep_in};
+ghost use Rattle.frac128.specs.Rational.{eq_ℚ, zero_ℚ};
+ghost use Rattle.model_core.specs.Valid.{is_between, is_abelian, is_real_rep, are_distinct};
+ghost use Rattle.model_core.specs.Document.{text_of, number_of, fraction_of, truth_of, value_or};
+ghost use Rattle.model_core.specs.Walk.{integer_places, name_places, latex_places, dimension_places, fraction_places, charge_places, real_places, is_own_conjugate, found_places};
+ghost use Rattle.model_reader.specs.Walked.{Walked};
 
-use crate::keys::{value_at, value_at_bytes};
-use model_core::Name;
+use crate::error::{ReadError, refused};
+use crate::keys::value_at;
+use crate::literal::{text_fraction, whole_fraction};
+use crate::names::Names;
+use frac128::Frac;
+use model_core::{FaultPlace, Field, Group, Latex, Name, ReadKind};
 use su_reps::Rep;
 use toml::{Table, Value};
 
-/// The name that a value is.
-fn name_in(value: &Value) -> Option<Name>
-    ensures { result ≡ name_in (view value.now) }
-{
-    match value.as_str() {
-        Some(text) => match Name::new(text.as_bytes()) {
-            Ok(name) => Some(name),
-            Err(_) => None,
-        },
-        None => None,
-    }
-}
-
-/// The name at a key.
-pub fn name_at(table: &Table, key: &str) -> Option<Name>
-    ensures { result ≡ at_key name_in key.now (table_view table.now) }
-{
-    match value_at(table, key) {
-        Some(value) => name_in(value),
-        None => None,
-    }
-}
-
-/// The number from `low` to `high` that an integer is.
-fn checked_number(low: u32, high: u32, number: i64) -> Option<u32>
-    ensures { result ≡ checked_number low high number }
+/// A whole number from `low` to `high`, or the refusal of this kind.
+fn checked_number(
+    place: FaultPlace,
+    low: u32,
+    high: u32,
+    kind: ReadKind,
+    number: i64,
+) -> Result<u32, ReadError>
+    ensures { Walked (λ n. n) (integer_places low high kind place (integer number)) (number_of (integer number)) result }
 {
     match u32::try_from(number) {
         Ok(small) => {
             if small < low {
-                return None;
+                return refused(place, kind);
             }
             if small > high {
-                return None;
+                return refused(place, kind);
             }
-            Some(small)
+            Ok(small)
         }
-        Err(_) => None,
+        Err(_) => refused(place, kind),
     }
 }
 
-/// The number from `low` to `high` that a value is.
-fn number_in(low: u32, high: u32, value: &Value) -> Option<u32>
-    ensures { result ≡ number_in low high (view value.now) }
+/// The whole number from `low` to `high` that a value is, or the refusal of this kind.
+fn number(
+    place: FaultPlace,
+    low: u32,
+    high: u32,
+    kind: ReadKind,
+    value: &Value,
+) -> Result<u32, ReadError>
+    ensures walked { Walked (λ n. n) (integer_places low high kind place (view value.now)) (number_of (view value.now)) result }
+    ensures within { IfOk result (λ n. is_between low high n ≡ true) }
 {
     match value.as_integer() {
-        Some(number) => checked_number(low, high, number),
-        None => None,
+        Some(number) => checked_number(place, low, high, kind, number),
+        None => refused(place, ReadKind::WrongType),
     }
 }
 
-/// The number from `low` to `high` at a key.
-pub fn number_at(low: u32, high: u32, table: &Table, key: &str) -> Option<u32>
-    ensures { result ≡ at_key (number_in low high) key.now (table_view table.now) }
+/// The version of the format, which is 1.
+pub fn profile(place: FaultPlace, value: &Value) -> Result<u32, ReadError>
+    ensures { Walked (λ n. n) (integer_places 1 1 ReadKind.BadNumber place (view value.now)) (number_of (view value.now)) result }
 {
-    match value_at(table, key) {
-        Some(value) => number_in(low, high, value),
-        None => None,
+    number(place, 1, 1, ReadKind::BadNumber, value)
+}
+
+/// The number of generations, from 1 to 6: 1 where nothing is said.
+pub fn generations(place: FaultPlace, table: &Table) -> Result<u32, ReadError>
+    ensures walked { Walked (λ n. n) (found_places (integer_places 1 6 ReadKind.BadNumber place) (get_member (codes "generations") (table_view table.now)))
+        (value_or number_of 1 (get_member (codes "generations") (table_view table.now))) result }
+    ensures within { IfOk result (λ n. is_between 1 6 n ≡ true) }
+{
+    match value_at(table, "generations") {
+        Some(value) => number(place, 1, 6, ReadKind::BadNumber, value),
+        None => Ok(1),
     }
 }
 
-/// The number from `low` to `high` at a key, or `default` where the key isn't there.
-pub fn number_at_or(low: u32, high: u32, default: u32, table: &Table, key: &str) -> Option<u32>
-    ensures { result ≡ at_key_or (number_in low high) default key.now (table_view table.now) }
+/// Whether one of these groups is a U(1).
+pub fn has_abelian(groups: &[Group]) -> bool
+    ensures { result ≡ list_any is_abelian groups.now }
 {
-    match value_at(table, key) {
-        Some(value) => number_in(low, high, value),
-        None => Some(default),
+    groups.iter().any(|group| group.is_abelian())
+}
+
+/// The n of a group after earlier ones: from 1 to 6, and no second 1.
+pub fn dimension(place: FaultPlace, earlier: &[Group], value: &Value) -> Result<u32, ReadError>
+    ensures walked { Walked (λ n. n) (dimension_places earlier.now place (view value.now)) (number_of (view value.now)) result }
+    ensures within { IfOk result (λ n. is_between 1 6 n ≡ true) }
+    ensures single { IfOk result (λ n. (n == 1 && list_any is_abelian earlier.now) ≡ false) }
+{
+    let n = number(place, 1, 6, ReadKind::BadGroup, value)?;
+    if n != 1 {
+        return Ok(n);
+    }
+    if has_abelian(earlier) {
+        return refused(place, ReadKind::SecondAbelian);
+    }
+    Ok(n)
+}
+
+/// The name that a value is.
+pub fn name(place: FaultPlace, value: &Value) -> Result<Name, ReadError>
+    ensures { Walked (λ name. name) (name_places [] place (view value.now)) (text_of (view value.now)) result }
+{
+    let Some(text) = value.as_str() else {
+        return refused(place, ReadKind::WrongType);
+    };
+    match Name::new(text.as_bytes()) {
+        Ok(name) => Ok(name),
+        Err(_) => refused(place, ReadKind::BadName),
     }
 }
 
-/// The representation that a word stands for.
-fn checked_rep(word: &str) -> Option<Rep>
-    ensures { result ≡ checked_rep word.now }
+/// The name that a value is, which none of the earlier ones repeats. It is added to these.
+#[tactic(auto, using(crate::proofs::ValidParts::distinct_push))]
+pub fn new_name(place: FaultPlace, names: &mut Names, value: &Value) -> Result<Name, ReadError>
+    requires { are_distinct names.old ≡ true }
+    ensures walked { Walked (λ name. name) (name_places names.old place (view value.now)) (text_of (view value.now)) result }
+    ensures added { IfOk result (λ _. names.new ≡ names.old ++ text_of (view value.now) ∷ []) }
+    ensures distinct { IfOk result (λ _. are_distinct names.new ≡ true) }
 {
-    if word == "singlet" {
-        return Some(Rep::Singlet);
+    let name = name(place, value)?;
+    if !names.add(&name)? {
+        return refused(place, ReadKind::RepeatedName);
     }
-    if word == "fund" {
-        return Some(Rep::Fund);
-    }
-    if word == "conj" {
-        return Some(Rep::Conj);
-    }
-    None
+    Ok(name)
 }
 
-/// The representation that a value names.
-fn rep_in(value: &Value) -> Option<Rep>
-    ensures { result ≡ rep_in (view value.now) }
+/// The text in LaTeX that a value is.
+fn latex(place: FaultPlace, value: &Value) -> Result<Latex, ReadError>
+    ensures { Walked (λ text. text) (latex_places place (view value.now)) (text_of (view value.now)) result }
 {
-    match value.as_str() {
-        Some(word) => checked_rep(word),
-        None => None,
+    let Some(text) = value.as_str() else {
+        return refused(place, ReadKind::WrongType);
+    };
+    match Latex::new(text.as_bytes()) {
+        Ok(latex) => Ok(latex),
+        Err(_) => refused(place, ReadKind::BadName),
     }
 }
 
-/// The representation under the group of this name: the singlet where the table doesn't have it.
-pub fn rep_at(table: &Table, group: &Name) -> Option<Rep>
-    ensures { result ≡ at_key_or rep_in Rep.Singlet group.now (table_view table.now) }
+/// A coupling's text in LaTeX: its name where there is none.
+pub fn latex_or(place: FaultPlace, table: &Table, coupling: &Name) -> Result<Latex, ReadError>
+    ensures { Walked (λ text. text) (found_places (latex_places place) (get_member (codes "latex") (table_view table.now)))
+        (value_or text_of coupling.now (get_member (codes "latex") (table_view table.now))) result }
 {
-    match value_at_bytes(table, group.as_bytes()) {
-        Some(value) => rep_in(value),
-        None => Some(Rep::Singlet),
+    match value_at(table, "latex") {
+        Some(value) => latex(place, value),
+        None => Ok(coupling.to_latex()),
+    }
+}
+
+/// The fraction that a value is.
+fn fraction(place: FaultPlace, value: &Value) -> Result<Frac, ReadError>
+    ensures { Walked (λ x. x) (fraction_places place (view value.now)) (fraction_of (view value.now)) result }
+{
+    let found = match value {
+        Value::Integer(number) => whole_fraction(*number),
+        Value::String(text) => text_fraction(text.as_str()),
+        _ => return refused(place, ReadKind::WrongType),
+    };
+    match found {
+        Some(fraction) => Ok(fraction),
+        None => refused(place, ReadKind::BadNumber),
+    }
+}
+
+/// The charge that a value is, which is 0 where no group is a U(1).
+fn checked_charge(place: FaultPlace, groups: &[Group], value: &Value) -> Result<Frac, ReadError>
+    ensures walked { Walked (λ x. x) (charge_places groups.now place (view value.now)) (fraction_of (view value.now)) result }
+    ensures of_group { IfOk result (λ x. (list_any is_abelian groups.now || eq_ℚ x zero_ℚ) ≡ true) }
+{
+    let charge = fraction(place, value)?;
+    if charge == Frac::zero() {
+        return Ok(charge);
+    }
+    if !has_abelian(groups) {
+        return refused(place, ReadKind::BadGroup);
+    }
+    Ok(charge)
+}
+
+/// A field's charge: 0 where nothing is said.
+pub fn charge(place: FaultPlace, groups: &[Group], table: &Table) -> Result<Frac, ReadError>
+    ensures walked { Walked (λ x. x) (found_places (charge_places groups.now place) (get_member (codes "charge") (table_view table.now)))
+        (value_or fraction_of zero_ℚ (get_member (codes "charge") (table_view table.now))) result }
+    ensures of_group { IfOk result (λ x. (list_any is_abelian groups.now || eq_ℚ x zero_ℚ) ≡ true) }
+{
+    match value_at(table, "charge") {
+        Some(value) => checked_charge(place, groups, value),
+        None => Ok(Frac::zero()),
+    }
+}
+
+/// Whether each representation is its own conjugate.
+fn are_real(reps: &[Rep]) -> bool
+    ensures { result ≡ list_all is_real_rep reps.now }
+{
+    reps.iter()
+        .all(|rep| matches!(rep, Rep::Singlet | Rep::Adjoint))
+}
+
+/// Whether a field is its own conjugate: without a charge, and in real representations.
+fn is_own_conjugate(field: &Field) -> bool
+    ensures { result ≡ is_own_conjugate field.now }
+{
+    if !are_real(field.reps.as_slice()) {
+        return false;
+    }
+    field.charge == Frac::zero()
+}
+
+/// Whether a scalar is real, as a value says.
+fn checked_real(place: FaultPlace, field: &Field, value: &Value) -> Result<bool, ReadError>
+    ensures walked { Walked (λ real. real) (real_places field.now place (view value.now)) (truth_of (view value.now)) result }
+    ensures allowed { IfOk result (λ real. (not real || is_own_conjugate field.now) ≡ true) }
+{
+    let Some(real) = value.as_bool() else {
+        return refused(place, ReadKind::WrongType);
+    };
+    if !real {
+        return Ok(false);
+    }
+    if !is_own_conjugate(field) {
+        return refused(place, ReadKind::BadRealScalar);
+    }
+    Ok(true)
+}
+
+/// Whether a scalar is real: it is complex where nothing is said.
+pub fn real_or(place: FaultPlace, field: &Field, table: &Table) -> Result<bool, ReadError>
+    ensures walked { Walked (λ real. real) (found_places (real_places field.now place) (get_member (codes "real") (table_view table.now)))
+        (value_or truth_of false (get_member (codes "real") (table_view table.now))) result }
+    ensures allowed { IfOk result (λ real. (not real || is_own_conjugate field.now) ≡ true) }
+{
+    match value_at(table, "real") {
+        Some(value) => checked_real(place, field, value),
+        None => Ok(false),
     }
 }

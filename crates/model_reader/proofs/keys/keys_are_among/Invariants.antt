@@ -1,7 +1,7 @@
 use Rattle.std.proofs.Common.{◌≡◌}
 use Rattle.toml.specs.View.{members_view, table_view}
-use Rattle.model_core.specs.Document.{keys_are_among}
-use Rattle.model_reader.specs.Reads.{texts}
+use Rattle.model_core.specs.Walk.{keys_are_among}
+use Rattle.model_reader.specs.Tables.{texts}
 use Rattle.model_reader.proofs.keys.keys_are_among.Given as goal
 
 -- each key so far is one of the words

@@ -1,0 +1,51 @@
+-- The steps of reading a file's own table.
+use Rattle.std.specs.Prelude.{◌≡◌, ℕ, ◌≤◌, List, length, map, Option, Some, None, Result, Ok, Err, codes}
+use Rattle.toml.specs.Data.{Members, get_member}
+use Rattle.toml.specs.View.{view}
+use Rattle.model_core.specs.declared.model.Model.{Model}
+use Rattle.model_core.specs.declared.fault.ReadFault.{ReadFault}
+use Rattle.model_core.specs.declared.fault.ReadKind.TheVariants.{NotToml}
+use Rattle.model_core.specs.declared.fault.Part.TheVariants as part
+use Rattle.model_core.specs.Fault.{fault}
+use Rattle.model_core.specs.Document.{document, group_of, fermion_of, scalar_of}
+use Rattle.model_core.specs.Walk.{place_of, part_places}
+use Rattle.model_reader.specs.Tables.{table_views}
+use Rattle.model_reader.specs.declared.reader.FileValues.{FileValues}
+use Rattle.model_reader.specs.declared.reader.PartTables.{PartTables}
+
+-- the document, or the fault of bytes that are none
+abbrev pub members_or_fault : Option Members → Result Members ReadFault
+members_or_fault None = Err (fault (place_of part.File 0 0) NotToml)
+members_or_fault (Some members) = Ok members
+
+abbrev pub document_or_fault : List ℕ → Result Members ReadFault
+document_or_fault bytes = members_or_fault (document bytes)
+
+-- the file's table has these values under its keys
+pub record HasHead (members : Members) (values : FileValues) : Type 0 where
+  pub profile : get_member (codes "profile") members ≡ Some (view values.profile.now)
+  pub name : get_member (codes "name") members ≡ Some (view values.name.now)
+
+-- the tables of groups, fermions and scalars
+abbrev pub part_lists : PartTables → List Members × (List Members × List Members)
+part_lists parts = (table_views parts.groups.items, (table_views parts.fermions.items, table_views parts.scalars.items))
+
+-- no part has more tables than it may have
+pub record ArePartsFew (parts : PartTables) : Type 0 where
+  pub groups : length parts.groups.items ≤ 4
+  pub fermions : length parts.fermions.items ≤ 24
+  pub scalars : length parts.scalars.items ≤ 12
+
+-- the model that the tables of its parts name
+abbrev pub model_with : ℕ → List ℕ → List Members × (List Members × List Members) → Model
+model_with profile name (group_tables, (fermion_tables, scalar_tables)) = record {
+  profile = profile;
+  name = name;
+  groups = map group_of group_tables;
+  fermions = map (fermion_of (map group_of group_tables)) fermion_tables;
+  scalars = map (scalar_of (map group_of group_tables)) scalar_tables;
+}
+
+-- the bad places within these tables
+abbrev pub places_of : List Members × (List Members × List Members) → List ReadFault
+places_of (group_tables, (fermion_tables, scalar_tables)) = part_places group_tables fermion_tables scalar_tables

@@ -1,0 +1,199 @@
+//! Well-formed files, and the models that they stand for.
+use crate::{ReadError, read_model};
+use frac128::{ByteList, Frac};
+use model_core::{Field, Group, Model};
+use std::alloc::{AllocError, Global};
+use su_reps::Rep;
+
+fn rep_word(rep: Rep) -> &'static str {
+    match rep {
+        Rep::Singlet => " singlet",
+        Rep::Fund => " fund",
+        Rep::Conj => " conj",
+        Rep::Adjoint => " adjoint",
+        Rep::Sym2 => " sym2",
+        Rep::Sym2Conj => " sym2conj",
+        Rep::Anti2 => " anti2",
+        Rep::Anti2Conj => " anti2conj",
+    }
+}
+
+fn tell_number(alloc: Global, line: &mut ByteList, number: u32) -> Result<(), AllocError> {
+    let text = format!(in alloc; " {number}")?;
+    line.extend(text.as_bytes())
+}
+
+/// The numerator and the denominator, also where it is 1.
+fn tell_charge(alloc: Global, line: &mut ByteList, charge: Frac) -> Result<(), AllocError> {
+    let num = charge.num();
+    let den = charge.den();
+    let text = format!(in alloc; " {num}/{den}")?;
+    line.extend(text.as_bytes())
+}
+
+fn tell_group(alloc: Global, line: &mut ByteList, group: &Group) -> Result<(), AllocError> {
+    line.extend(b"; ")?;
+    line.extend(group.name.as_bytes())?;
+    tell_number(alloc, line, group.n)?;
+    line.extend(b" ")?;
+    line.extend(group.coupling.as_bytes())?;
+    line.extend(b" ")?;
+    line.extend(group.latex.as_bytes())
+}
+
+fn tell_field(alloc: Global, line: &mut ByteList, field: &Field) -> Result<(), AllocError> {
+    line.extend(b"; ")?;
+    line.extend(field.name.as_bytes())?;
+    tell_number(alloc, line, field.generations)?;
+    tell_charge(alloc, line, field.charge)?;
+    for rep in field.reps.as_slice() {
+        line.extend(rep_word(*rep).as_bytes())?;
+    }
+    if field.real {
+        line.extend(b" real")?;
+    }
+    Ok(())
+}
+
+fn tell_model(alloc: Global, line: &mut ByteList, model: &Model) -> Result<(), AllocError> {
+    line.extend(model.name.as_bytes())?;
+    for group in model.groups.as_slice() {
+        tell_group(alloc, line, group)?;
+    }
+    for field in model.fermions.as_slice() {
+        tell_field(alloc, line, field)?;
+    }
+    for field in model.scalars.as_slice() {
+        tell_field(alloc, line, field)?;
+        line.extend(b" scalar")?;
+    }
+    Ok(())
+}
+
+/// The parts of a file's model in a line.
+fn model_of(alloc: Global, file: &[u8]) -> Result<ByteList, AllocError> {
+    let mut line = ByteList::new(alloc);
+    match read_model(alloc, file) {
+        Ok(model) => tell_model(alloc, &mut line, &model)?,
+        Err(ReadError::Fault(_)) => line.extend(b"malformed")?,
+        Err(ReadError::NoMemory) => return Err(AllocError),
+    }
+    Ok(line)
+}
+
+/// Whole files, and the parts of their models: the name; for each group its name, n, coupling and its text
+/// in LaTeX; for each field its name, generations, charge and a representation for each group.
+const MODELS: [(&str, &str); 25] = [
+    // No groups.
+    ("profile=1\nname='m'", "m"),
+    ("profile=1\nname='m'\ngroup=[]\nfermion=[]\nscalar=[]", "m"),
+    (
+        "profile=1\nname='m'\nfermion=[{name='A'},{name='B',generations=6,charge=0,reps={}}]",
+        "m; A 1 0/1; B 6 0/1",
+    ),
+    (
+        "profile=1\nname='phi'\nscalar=[{name='S',real=true},{name='T',real=false},{name='U'}]",
+        "phi; S 1 0/1 real scalar; T 1 0/1 scalar; U 1 0/1 scalar",
+    ),
+    // Forms of the document: order of keys, headers, quoted and dotted keys, escapes, other bases, comments, line ends.
+    (
+        "name='two'\nprofile=1\n[[fermion]]\nreps={L='conj',c='fund'}\nname='Q'\ngenerations=3\n[[group]]\ncoupling='g'\nn=3\nname='c'\n[[group]]\nn=2\nname='L'\ncoupling='gw'\n[[scalar]]\nreal=true\nname='S'\n[[fermion]]\nname='e'\n",
+        "two; c 3 g g; L 2 gw gw; Q 3 0/1 fund conj; e 1 0/1 singlet singlet; S 1 0/1 singlet singlet real scalar",
+    ),
+    (
+        "profile=1\nname='m'\n[[group]]\nname='c'\nn=3\ncoupling='g'\n[[fermion]]\nname='q'\n[fermion.reps]\nc='sym2'\n[[fermion]]\nname='p'\nreps.c='anti2'\n",
+        "m; c 3 g g; q 1 0/1 sym2; p 1 0/1 anti2",
+    ),
+    (
+        "'profile'=0x1\n\"name\"=\"\\u006d\"\ngroup=[{\"name\"='u','n'=+1,coupling=\"g\"},{name='c',n=0b11,coupling='h'}]\nfermion=[{name='q',generations=0o3,charge=1_000,reps.c=\"f\\u0075nd\"}]",
+        "m; u 1 g g; c 3 h h; q 3 1000/1 singlet fund",
+    ),
+    (
+        "# profile=2\r\nprofile=1 # one\r\nname='m'\r\n\r\ngroup=[\r\n  {name='c',n=3,coupling='g'}, # the only one\r\n]\r\n",
+        "m; c 3 g g",
+    ),
+    // Names.
+    (
+        "profile=1\nname='abcdefghijklmnopqrstuvwx'\ngroup=[{name='A_0',n=2,coupling='abcdefghijklmnopqrstuvwx'}]\nfermion=[{name='ABCDEFGHIJKLMNOPQRSTUVWX'}]",
+        "abcdefghijklmnopqrstuvwx; A_0 2 abcdefghijklmnopqrstuvwx abcdefghijklmnopqrstuvwx; ABCDEFGHIJKLMNOPQRSTUVWX 1 0/1 singlet",
+    ),
+    (
+        "profile=1\nname='q'\ngroup=[{name='c',n=2,coupling='C',latex='c'}]\nfermion=[{name='q'},{name='Q'}]",
+        "q; c 2 C c; q 1 0/1 singlet; Q 1 0/1 singlet",
+    ),
+    // Groups and their texts in LaTeX.
+    (
+        "profile=1\nname='m'\ngroup=[{name='b',n=2,coupling='g2'},{name='c',n=4,coupling='g4',latex='g_4'},{name='d',n=5,coupling='g5',latex='g_4'},{name='e',n=6,coupling='g6',latex=' '}]",
+        "m; b 2 g2 g2; c 4 g4 g_4; d 5 g5 g_4; e 6 g6  ",
+    ),
+    (
+        "profile=1\nname='m'\ngroup=[{name='c',n=3,coupling='g',latex='\\tilde{g}_{~}'},{name='u',n=1,coupling='h',latex='abcdefghijklmnopqrstuvwxyz0123456789abcd'}]",
+        "m; c 3 g \\tilde{g}_{~}; u 1 h abcdefghijklmnopqrstuvwxyz0123456789abcd",
+    ),
+    // Charges are kept in lowest terms.
+    (
+        "profile=1\nname='QED'\ngroup=[{name='u',n=1,coupling='e'}]\nfermion=[{name='l',charge='-1'},{name='lc',charge=1},{name='n'}]",
+        "QED; u 1 e e; l 1 -1/1 singlet; lc 1 1/1 singlet; n 1 0/1 singlet",
+    ),
+    (
+        "profile=1\nname='m'\ngroup=[{name='u',n=1,coupling='g'}]\nfermion=[{name='a',charge='2/4'},{name='b',charge='-2/4'},{name='c',charge='01/02'},{name='d',charge='6/3'},{name='e',charge='-6/1'}]",
+        "m; u 1 g g; a 1 1/2 singlet; b 1 -1/2 singlet; c 1 1/2 singlet; d 1 2/1 singlet; e 1 -6/1 singlet",
+    ),
+    (
+        "profile=1\nname='m'\ngroup=[{name='u',n=1,coupling='g'}]\nfermion=[{name='a',charge='0'},{name='b',charge='-0'},{name='c',charge='0/1'},{name='d',charge='-0/1000000'},{name='e',charge=-0}]",
+        "m; u 1 g g; a 1 0/1 singlet; b 1 0/1 singlet; c 1 0/1 singlet; d 1 0/1 singlet; e 1 0/1 singlet",
+    ),
+    (
+        "profile=1\nname='m'\ngroup=[{name='u',n=1,coupling='g'}]\nscalar=[{name='a',charge='1/1000000'},{name='b',charge='-1/1000000'},{name='c',charge='1000000000/1'},{name='d',charge='-1000000000'},{name='e',charge=1000000000},{name='f',charge=-1000000000}]",
+        "m; u 1 g g; a 1 1/1000000 singlet scalar; b 1 -1/1000000 singlet scalar; c 1 1000000000/1 singlet scalar; d 1 -1000000000/1 singlet scalar; e 1 1000000000/1 singlet scalar; f 1 -1000000000/1 singlet scalar",
+    ),
+    (
+        "profile=1\nname='m'\ngroup=[{name='u',n=1,coupling='g'}]\nfermion=[{name='a',charge='1000000000/1000000'},{name='b',charge='999999999/1000000'},{name='c',charge='-1000000000/999999'},{name='d',charge='0000000000000000000000000000000000000000003/0000000000000000000000000000000000000000006'}]",
+        "m; u 1 g g; a 1 1000/1 singlet; b 1 999999999/1000000 singlet; c 1 -1000000000/999999 singlet; d 1 1/2 singlet",
+    ),
+    (
+        "profile=1\nname='m'\ngroup=[{name='c',n=2,coupling='g'}]\nfermion=[{name='a',charge=0},{name='b',charge='-0/7'}]\nscalar=[{name='d',charge='00'}]",
+        "m; c 2 g g; a 1 0/1 singlet; b 1 0/1 singlet; d 1 0/1 singlet scalar",
+    ),
+    // Representations: a group that isn't named is a singlet, and the U(1) is one for each field.
+    (
+        "profile=1\nname='m'\ngroup=[{name='c',n=5,coupling='g'}]\nfermion=[{name='s',reps={c='singlet'}},{name='f',reps={c='fund'}},{name='fc',reps={c='conj'}},{name='a',reps={c='adjoint'}},{name='t',reps={c='sym2'}},{name='tc',reps={c='sym2conj'}},{name='u',reps={c='anti2'}},{name='uc',reps={c='anti2conj'}}]",
+        "m; c 5 g g; s 1 0/1 singlet; f 1 0/1 fund; fc 1 0/1 conj; a 1 0/1 adjoint; t 1 0/1 sym2; tc 1 0/1 sym2conj; u 1 0/1 anti2; uc 1 0/1 anti2conj",
+    ),
+    (
+        "profile=1\nname='m'\ngroup=[{name='c',n=2,coupling='g'}]\nscalar=[{name='s',reps={c='singlet'}},{name='f',reps={c='fund'}},{name='fc',reps={c='conj'}},{name='a',reps={c='adjoint'}},{name='t',reps={c='sym2'}},{name='tc',reps={c='sym2conj'}},{name='u',reps={c='anti2'}},{name='uc',reps={c='anti2conj'}}]",
+        "m; c 2 g g; s 1 0/1 singlet scalar; f 1 0/1 fund scalar; fc 1 0/1 conj scalar; a 1 0/1 adjoint scalar; t 1 0/1 sym2 scalar; tc 1 0/1 sym2conj scalar; u 1 0/1 anti2 scalar; uc 1 0/1 anti2conj scalar",
+    ),
+    (
+        "profile=1\nname='m'\ngroup=[{name='z',n=2,coupling='g'},{name='y',n=3,coupling='h'},{name='u',n=1,coupling='i'},{name='w',n=6,coupling='j'}]\nfermion=[{name='q',generations=2,charge='1/6',reps={w='fund',z='conj'}},{name='p',reps={y='anti2'}},{name='r'}]",
+        "m; z 2 g g; y 3 h h; u 1 i i; w 6 j j; q 2 1/6 conj singlet singlet fund; p 1 0/1 singlet anti2 singlet singlet; r 1 0/1 singlet singlet singlet singlet",
+    ),
+    // Real scalars.
+    (
+        "profile=1\nname='adj'\ngroup=[{name='c',n=2,coupling='g'}]\nscalar=[{name='P',real=true,reps={c='adjoint'}},{name='S',real=true,reps={c='singlet'}},{name='T',real=false,reps={c='adjoint'}}]",
+        "adj; c 2 g g; P 1 0/1 adjoint real scalar; S 1 0/1 singlet real scalar; T 1 0/1 adjoint scalar",
+    ),
+    (
+        "profile=1\nname='m'\ngroup=[{name='u',n=1,coupling='a'},{name='b',n=2,coupling='g'},{name='c',n=3,coupling='h'}]\nscalar=[{name='P',charge='-0/5',real=true,reps={c='adjoint',b='adjoint'}},{name='S',generations=6,charge=0,real=true}]",
+        "m; u 1 a a; b 2 g g; c 3 h h; P 1 0/1 singlet adjoint adjoint real scalar; S 6 0/1 singlet singlet singlet real scalar",
+    ),
+    // The Standard Model.
+    (
+        "profile=1\nname='SM'\ngroup=[{name='Y',n=1,coupling='g1'},{name='L',n=2,coupling='g2'},{name='c',n=3,coupling='g3'}]\nfermion=[{name='Q',generations=3,charge='1/6',reps={L='fund',c='fund'}},{name='u',generations=3,charge='-2/3',reps={c='conj'}},{name='d',generations=3,charge='1/3',reps={c='conj'}},{name='E',generations=3,charge='-1/2',reps={L='fund'}},{name='e',generations=3,charge='1'}]\nscalar=[{name='H',charge='1/2',reps={L='fund'}}]",
+        "SM; Y 1 g1 g1; L 2 g2 g2; c 3 g3 g3; Q 3 1/6 singlet fund fund; u 3 -2/3 singlet singlet conj; d 3 1/3 singlet singlet conj; E 3 -1/2 singlet fund singlet; e 3 1/1 singlet singlet singlet; H 1 1/2 singlet fund singlet scalar",
+    ),
+    // A fermion and scalars with as many components as there may be.
+    (
+        "profile=1\nname='m'\ngroup=[{name='w',n=4,coupling='a'},{name='x',n=4,coupling='b'},{name='y',n=4,coupling='c'},{name='z',n=4,coupling='d'}]\nfermion=[{name='q',generations=2,reps={w='fund',x='fund',y='fund',z='conj'}}]\nscalar=[{name='H',generations=2,reps={x='fund',y='fund',z='conj'}}]",
+        "m; w 4 a a; x 4 b b; y 4 c c; z 4 d d; q 2 0/1 fund fund fund conj; H 2 0/1 singlet fund fund conj scalar",
+    ),
+];
+
+#[test]
+fn models(rt: HostRuntime) -> Result<(), AllocError> {
+    for (file, model) in MODELS {
+        let line = model_of(rt.alloc(), file.as_bytes())?;
+        assert_eq!(rt; line.as_slice(), model.as_bytes(), "{file}");
+    }
+    Ok(())
+}
