@@ -3,3 +3,5 @@ pub mod Pieces
 pub mod Numbers
 pub mod Dimensions
 pub mod Enumerated
+pub mod Squares
+pub mod RunLaws

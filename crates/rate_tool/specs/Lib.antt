@@ -2,6 +2,8 @@ pub mod Stream
 pub mod Memory
 pub mod Register
 pub mod Words
+pub mod Refused
+pub mod Faults
 pub mod Lines
 pub mod Text
 pub mod StatusLine

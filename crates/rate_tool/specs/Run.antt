@@ -1,9 +1,10 @@
 -- What a run answers, and what it reads and writes.
 use Rattle.std.specs.Prelude.{◌≡◌, ℕ, ◌≤◌, ◌<◌, nat_lt, if◌then◌else◌, ⊤, List, length, Option, Some, None, Result, Ok, Err}
+use Rattle.frac128.specs.declared.frac.Overflow.{Overflow}
 use Rattle.model_core.specs.declared.fault.ReadFault.{ReadFault}
 use Rattle.rate_tool.specs.Stream.{Gave, IsEmptied, Took, TookFront}
 use Rattle.rate_tool.specs.Words.{command_of}
-use Rattle.rate_tool.specs.Lines.{derivation}
+use Rattle.rate_tool.specs.Lines.{derivation, Overflows}
 use Rattle.rate_tool.specs.Text.{first_text}
 use Rattle.rate_tool.specs.declared.lines.FirstLines.{FirstLines}
 use Rattle.rate_tool.specs.declared.words.Command.{Command}
@@ -39,7 +40,8 @@ status_for (Some command) bytes = if nat_lt limit (length bytes) then status.Too
 abbrev pub due_status : List (List ℕ) → List ℕ → Status
 due_status words bytes = status_for (command_of words) bytes
 
--- The status is the one that is due, but for want of memory, a failed read, or a failed write in place of `Done`.
+-- The status is the one that is due, but for want of memory, a failed read, or a failed write or a refused sum or product
+-- in place of `Done`.
 abbrev pub IsDue : Status → Status → Type 0
 IsDue due status.NoMemory = ⊤
 IsDue due status.ReadFault = ⊤
@@ -48,6 +50,12 @@ IsDue due status.Done = due ≡ status.Done
 IsDue due status.Usage = due ≡ status.Usage
 IsDue due status.TooLong = due ≡ status.TooLong
 IsDue due (status.Malformed fault) = due ≡ status.Malformed fault
+IsDue due (status.Overflow pair) = due ≡ status.Done
+
+-- The status says that two fractions are refused, of a model that these bytes stand for.
+abbrev pub IsOverflow : List ℕ → Status → Type 0
+IsOverflow bytes (status.Overflow pair) = Overflows bytes pair
+IsOverflow bytes _ = ⊥
 
 -- ---- what was read
 
@@ -70,6 +78,14 @@ pub record HasAnswer (words : List (List ℕ)) (left left' : Option (List ℕ)) 
   pub file : List ℕ
   pub read : WasRead left left' file
   pub answers : answer_to command file ≡ answer
+
+-- The words are a command, a file was read whole, it stands for a model, and this pair of fractions is refused.
+pub record HasOverflow (words : List (List ℕ)) (left left' : Option (List ℕ)) (pair : Overflow) : Type 0 where
+  pub command : Command
+  pub asked : command_of words ≡ Some command
+  pub file : List ℕ
+  pub read : WasRead left left' file
+  pub overflows : Overflows file pair
 
 -- ---- what was written
 

@@ -1,5 +1,7 @@
 -- The exit code of a status, and the line that is written of it.
 use Rattle.std.specs.Prelude.{ℕ, List, [], ◌++◌, codes, decimal}
+use Rattle.frac128.specs.declared.frac.Overflow.{Overflow}
+use Rattle.frac128.specs.Frac.{fraction_text}
 use Rattle.model_core.specs.declared.fault.ReadFault.{ReadFault}
 use Rattle.model_core.specs.declared.fault.ReadKind.{ReadKind}
 use Rattle.model_core.specs.declared.fault.ReadKind.TheVariants as kind
@@ -16,11 +18,23 @@ code_of status.Usage = 2
 code_of status.ReadFault = 3
 code_of status.TooLong = 4
 code_of (status.Malformed fault) = 5
+code_of (status.Overflow pair) = 8
 code_of status.WriteFault = 12
 
 -- the name of a kind of fault, as the type has it
 abbrev pub kind_text : ReadKind → List ℕ
 kind_text kind.NotToml = codes "NotToml"
+kind_text kind.UnknownKey = codes "UnknownKey"
+kind_text kind.MissingKey = codes "MissingKey"
+kind_text kind.WrongType = codes "WrongType"
+kind_text kind.BadName = codes "BadName"
+kind_text kind.RepeatedName = codes "RepeatedName"
+kind_text kind.BadNumber = codes "BadNumber"
+kind_text kind.BadGroup = codes "BadGroup"
+kind_text kind.SecondAbelian = codes "SecondAbelian"
+kind_text kind.BadRep = codes "BadRep"
+kind_text kind.BadRealScalar = codes "BadRealScalar"
+kind_text kind.OverLimit = codes "OverLimit"
 kind_text kind.Unbuilt = codes "Unbuilt"
 
 -- the name of a part, in lower case
@@ -40,6 +54,10 @@ numbers_text fault = decimal fault.index ++ codes " " ++ decimal fault.at ++ cod
 abbrev pub fault_text : ReadFault → List ℕ
 fault_text fault = codes "malformed " ++ kind_text fault.kind ++ codes " " ++ part_text fault.part ++ codes " " ++ numbers_text fault ++ codes "\n"
 
+-- `overflow A B`, both as `p` or `p/q`
+abbrev pub overflow_text : Overflow → List ℕ
+overflow_text pair = codes "overflow " ++ fraction_text pair.a ++ codes " " ++ fraction_text pair.b ++ codes "\n"
+
 -- the line of a status, none for `Done`
 abbrev pub status_text : Status → List ℕ
 status_text status.Done = []
@@ -48,4 +66,5 @@ status_text status.Usage = codes "usage\n"
 status_text status.ReadFault = codes "read fault\n"
 status_text status.TooLong = codes "too long\n"
 status_text (status.Malformed fault) = fault_text fault
+status_text (status.Overflow pair) = overflow_text pair
 status_text status.WriteFault = codes "write fault\n"

@@ -1,8 +1,10 @@
 -- The steps of a run.
 use Rattle.std.specs.Prelude.{◌≡◌, ℕ, ◌≤◌, List, ◌++◌, length, Option, Result, Ok, Err, Vec}
 use Rattle.std.specs.declared.alloc.Global.{Global}
+use Rattle.frac128.specs.declared.frac.Overflow.{Overflow}
 use Rattle.model_core.specs.declared.fault.ReadFault.{ReadFault}
 use Rattle.rate_tool.specs.Stream.{Rose, Gave, IsEmptied, Took, TookFront}
+use Rattle.rate_tool.specs.Lines.{Overflows}
 use Rattle.rate_tool.specs.Run.{answer_to, WasRead, WasTooLong}
 use Rattle.rate_tool.specs.declared.words.Command.{Command}
 use Rattle.rate_tool.specs.declared.run.Stop.{Stop}
@@ -51,6 +53,13 @@ pub record Answers (command : Command) (s : Streams) (answer : Result (List ℕ)
   pub counted : s.reads' ≡ s.reads
   pub answers : answer_to command file ≡ answer
 
+-- a file was read whole, with no fault, it stands for a model, and this pair of fractions is refused
+pub record ReadsOverflow (s : Streams) (pair : Overflow) : Type 0 where
+  pub file : List ℕ
+  pub read : WasRead s.left s.left' file
+  pub counted : s.reads' ≡ s.reads
+  pub overflows : Overflows file pair
+
 -- the whole answer was written
 pub record WritesWhole (command : Command) (s : Streams) : Type 0 where
   pub text : List ℕ
@@ -73,4 +82,5 @@ FileEnds command s status.Usage = ⊥
 FileEnds command s status.ReadFault = Rose s.reads s.reads'
 FileEnds command s status.TooLong = WasTooLong s.left s.left' × (s.reads' ≡ s.reads)
 FileEnds command s (status.Malformed fault) = Answers command s (Err fault)
+FileEnds command s (status.Overflow pair) = ReadsOverflow s pair
 FileEnds command s status.WriteFault = WritesFront command s

@@ -5,6 +5,7 @@ ghost use Rattle.std.specs.Prelude.{◌≡◌, ◌⊎◌, map, string_bytes, IfO
 ghost use Rattle.std.specs.Vec.Iter.{into_iter_items};
 ghost use Rattle.rate_tool.specs.Words.{texts};
 
+mod abelian;
 mod broken_keeper;
 mod gate;
 mod gauge;
@@ -12,6 +13,7 @@ mod gauge;
 mod gauge_tests;
 mod keeper;
 mod lines;
+mod multiplets;
 mod print;
 mod room;
 mod run;

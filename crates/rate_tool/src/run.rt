@@ -1,21 +1,21 @@
 //! The top call.
 ghost use Rattle.std.specs.Prelude.{◌≡◌, ◌↔◌, ◌<◌, ◌⊎◌, length, Err, IsNone, IfSome};
 ghost use Rattle.model_core.specs.declared.fault.ReadFault.{ReadFault};
-ghost use Rattle.model_reader.specs.Gives.{Gives};
+ghost use Rattle.frac128.specs.declared.frac.Overflow.{Overflow};
+ghost use Rattle.rate_tool.specs.Lines.{Derives};
 ghost use Rattle.rate_tool.specs.Stream.{Rose};
 ghost use Rattle.rate_tool.specs.Words.{command_of, texts};
-ghost use Rattle.rate_tool.specs.Run.{answer_to, due_status, IsDue, WasTooLong, HasAnswer, WroteAnswer, WroteFront, IsSilent};
+ghost use Rattle.rate_tool.specs.Run.{answer_to, due_status, IsDue, IsOverflow, WasTooLong, HasAnswer, HasOverflow, WroteAnswer, WroteFront, IsSilent};
 ghost use Rattle.rate_tool.specs.Steps.{PieceEnds, ReadEnds, FileEnds};
 
 use crate::gate::Gate;
 use crate::keeper::Keeper;
-use crate::lines::derive_first;
+use crate::lines::{DeriveFault, derive_first};
 use crate::print::print_first;
 use crate::status::Status;
 use crate::stream::{Sink, Source, write_all};
 use crate::words::{Command, command_of};
 use frac128::ByteList;
-use model_reader::ReadError;
 use std::alloc::Global;
 use std::rc::RcStr;
 use std::thread::Threads;
@@ -73,8 +73,8 @@ fn read_all<S: Source>(alloc: Global, source: &mut S) -> Result<Vec<u8>, Stop>
 }
 
 /// What a command answers to a file.
-fn answer_to(alloc: Global, command: Command, file: &[u8]) -> Result<ByteList, ReadError>
-    ensures { Gives (λ text. text) result (answer_to command file.now) }
+fn answer_to(alloc: Global, command: Command, file: &[u8]) -> Result<ByteList, DeriveFault>
+    ensures { Derives file.now (answer_to command file.now) result }
 {
     let Command::Derive { .. } = command;
     let lines = derive_first(alloc, file)?;
@@ -109,8 +109,9 @@ fn answer_file<S: Source, O: Sink>(
     };
     let text = match answer_to(alloc, command, bytes.as_slice()) {
         Ok(text) => text,
-        Err(ReadError::NoMemory) => return Status::NoMemory,
-        Err(ReadError::Fault(fault)) => return Status::Malformed(fault),
+        Err(DeriveFault::NoMemory) => return Status::NoMemory,
+        Err(DeriveFault::Read(fault)) => return Status::Malformed(fault),
+        Err(DeriveFault::Overflow(pair)) => return Status::Overflow(pair),
     };
     match write_all(out, text.as_slice()) {
         Ok(()) => Status::Done,
@@ -136,10 +137,10 @@ pub fn run<R: Threads + Sync, S: Source, O: Sink, K: Keeper, G: Gate>(
     // and faults of the streams.
     ensures due { IfSome (S.left source.old) (λ bytes. IsDue (due_status (texts words.now) bytes) result) }
 
-    // Where no count of faults rose, it is that very status or `NoMemory`.
+    // Where no count of faults rose, it is that very status or `NoMemory`, or two fractions of the model are refused.
     ensures complete { IfSome (S.left source.old) (λ bytes.
         ¬ Rose (S.faults source.old) (S.faults source.new) → ¬ Rose (O.faults out.old) (O.faults out.new) →
-        (result ≡ due_status (texts words.now) bytes) ⊎ (result ≡ Status.NoMemory)) }
+        (result ≡ due_status (texts words.now) bytes) ⊎ ((result ≡ Status.NoMemory) ⊎ IsOverflow bytes result)) }
 
     // Each status has its cause.
     ensures usage { (result ≡ Status.Usage) ↔ IsNone (command_of (texts words.now)) }
@@ -147,6 +148,8 @@ pub fn run<R: Threads + Sync, S: Source, O: Sink, K: Keeper, G: Gate>(
     ensures too_long { result ≡ Status.TooLong → WasTooLong (S.left source.old) (S.left source.new) }
     ensures malformed { (fault : ReadFault) → result ≡ Status.Malformed fault →
         HasAnswer (texts words.now) (S.left source.old) (S.left source.new) (Err fault) }
+    ensures overflow { (pair : Overflow) → result ≡ Status.Overflow pair →
+        HasOverflow (texts words.now) (S.left source.old) (S.left source.new) pair }
     ensures write_fault { result ≡ Status.WriteFault → Rose (O.faults out.old) (O.faults out.new) }
 
     // After `Done` the whole answer was written, after `WriteFault` a front of it, and after every

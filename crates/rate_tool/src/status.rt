@@ -1,9 +1,12 @@
 //! How a run ended.
 ghost use Rattle.std.specs.Prelude.{◌≡◌, ◌+◌, ◌≤◌, ◌++◌, length, decimal};
+ghost use Rattle.std.specs.Fmt.{signed_decimal};
+ghost use Rattle.frac128.specs.Frac.{fraction_text};
 ghost use Rattle.rate_tool.specs.Stream.{Writes};
-ghost use Rattle.rate_tool.specs.StatusLine.{code_of, status_text, fault_text, numbers_text, kind_text, part_text};
+ghost use Rattle.rate_tool.specs.StatusLine.{code_of, status_text, fault_text, overflow_text, numbers_text, kind_text, part_text};
 
 use crate::stream::{Failed, Sink, write_all};
+use frac128::{Frac, Overflow};
 use itoa::Buffer;
 use model_core::{InlineBytes, Part, ReadFault, ReadKind};
 
@@ -25,12 +28,14 @@ pub enum Status {
     TooLong,
     /// The file's first bad place.
     Malformed(ReadFault),
+    /// The sum or the product of two fractions is refused, because its numbers are too large.
+    Overflow(Overflow),
     /// A write failed.
     WriteFault,
 }
 
 impl Status {
-    /// The exit code: 0 to 5, or 12 for a failed write.
+    /// The exit code: 0 to 5, 8 for a refused sum or product, or 12 for a failed write.
     pub fn code(&self) -> u8
         ensures { result ≡ code_of self.now }
     {
@@ -41,6 +46,7 @@ impl Status {
             Status::ReadFault => 3,
             Status::TooLong => 4,
             Status::Malformed(_) => 5,
+            Status::Overflow(_) => 8,
             Status::WriteFault => 12,
         }
     }
@@ -66,6 +72,7 @@ fn line_of(status: &Status) -> LineText
         Status::ReadFault => short_line(b"read fault\n"),
         Status::TooLong => short_line(b"too long\n"),
         Status::Malformed(fault) => fault_line(fault),
+        Status::Overflow(pair) => overflow_line(pair),
         Status::WriteFault => short_line(b"write fault\n"),
     }
 }
@@ -87,6 +94,17 @@ fn kind_name(kind: ReadKind) -> &'static [u8]
 {
     match kind {
         ReadKind::NotToml => b"NotToml",
+        ReadKind::UnknownKey => b"UnknownKey",
+        ReadKind::MissingKey => b"MissingKey",
+        ReadKind::WrongType => b"WrongType",
+        ReadKind::BadName => b"BadName",
+        ReadKind::RepeatedName => b"RepeatedName",
+        ReadKind::BadNumber => b"BadNumber",
+        ReadKind::BadGroup => b"BadGroup",
+        ReadKind::SecondAbelian => b"SecondAbelian",
+        ReadKind::BadRep => b"BadRep",
+        ReadKind::BadRealScalar => b"BadRealScalar",
+        ReadKind::OverLimit => b"OverLimit",
         ReadKind::Unbuilt => b"Unbuilt",
     }
 }
@@ -140,6 +158,43 @@ fn fault_line(fault: &ReadFault) -> LineText
     line.extend(part_name(fault.part));
     line.extend(b" ");
     push_numbers(&mut line, fault);
+    line.extend(b"\n");
+    line
+}
+
+/// Adds a fraction: `p`, or `p/q`.
+fn push_fraction(line: &mut LineText, fraction: &Frac)
+    requires { length line.old + 81 ≤ 256 }
+    ensures value { line.new ≡ line.old ++ fraction_text fraction.now }
+    ensures short { length line.new ≤ length line.old + 81 }
+{
+    push_signed(line, fraction.num());
+    if fraction.den() == 1 {
+        return;
+    }
+    line.extend(b"/");
+    push_signed(line, fraction.den());
+}
+
+/// Adds a number with its sign.
+fn push_signed(line: &mut LineText, number: i128)
+    requires { length line.old + 40 ≤ 256 }
+    ensures value { line.new ≡ line.old ++ signed_decimal number }
+    ensures short { length line.new ≤ length line.old + 40 }
+{
+    let mut buffer = Buffer::new();
+    line.extend(buffer.format(number).as_bytes());
+}
+
+/// The line of a refused sum or product.
+fn overflow_line(pair: &Overflow) -> LineText
+    ensures { result ≡ overflow_text pair.now }
+{
+    let mut line = LineText::new();
+    line.extend(b"overflow ");
+    push_fraction(&mut line, &pair.a);
+    line.extend(b" ");
+    push_fraction(&mut line, &pair.b);
     line.extend(b"\n");
     line
 }

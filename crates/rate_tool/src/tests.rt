@@ -7,8 +7,9 @@ use crate::sources::{MemorySource, SureSource};
 use crate::status::Status;
 use crate::stream::{Sink, Source, write_all};
 use crate::streams::{Reading, Writing};
-use frac128::{ByteList, FailList};
+use frac128::{ByteList, FailList, Frac, Overflow};
 use std::alloc::{AllocError, Global};
+use std::process::Abort;
 use std::rc::RcStr;
 use std::thread::Threads;
 
@@ -23,7 +24,7 @@ const TEXT: &[u8] = b"model ym\nloops 1\nbeta1 g = -11*g^3\n";
 
 const NOT_TOML: &[u8] = b"malformed NotToml file 0 0 0\n";
 
-const UNBUILT: &[u8] = b"malformed Unbuilt file 0 0 0\n";
+const NO_PROFILE: &[u8] = b"malformed MissingKey file 0 1 0\n";
 
 /// Puts a piece a number of times behind the bytes.
 fn extend_by(bytes: &mut ByteList, piece: &[u8], count: u32) -> Result<(), AllocError> {
@@ -67,52 +68,117 @@ fn run_over<R: Threads + Sync, S: Source, O: Sink>(
     Ok((status.code(), line))
 }
 
+/// Checks what a command writes and how it ends, with its status line.
+fn check<R: Threads + Sync + Abort>(
+    rt: &R,
+    alloc: Global,
+    words: &[&str],
+    file: &[u8],
+    code: u8,
+    text: &[u8],
+    line: &[u8],
+) -> Result<(), AllocError> {
+    let mut bytes = ByteList::new(alloc);
+    bytes.extend(file)?;
+    let mut out = SureSink::new(alloc, 256)?;
+    let (got, told) = run_over(rt, alloc, words, &mut SureSource::new(bytes), &mut out)?;
+    assert_eq!(rt; got, code);
+    assert_eq!(rt; out.bytes().unwrap_or(b"lost"), text);
+    assert_eq!(rt; told.bytes().unwrap_or(b"lost"), line);
+    Ok(())
+}
+
 #[test]
-fn words_and_files_have_their_answers(rt: HostRuntime) -> Result<(), AllocError> {
-    let alloc = rt.alloc();
-    let more: &[u8] =
-        b"profile = 1\nname = \"ym\"\ngroup = [{name=\"SU3\", n=3, coupling=\"g\"}]\nscalar = []\n";
-    let six_quarks: &[u8] =
-        b"profile = 1\nname = \"q6\"\ngroup = [{name=\"SU3\", n=3, coupling=\"g\"}]\nfermion = [{name=\"q\", generations=6, reps={SU3=\"fund\"}}, {name=\"qc\", generations=6, reps={SU3=\"conj\"}}]\n";
-    let two_doublets: &[u8] =
-        b"profile = 1\nname = \"witten\"\ngroup = [{name=\"SU2\", n=2, coupling=\"g\"}]\nfermion = [{name=\"D\", generations=2, reps={SU2=\"fund\"}}]\n";
-    let rows: [(&[&str], &[u8], u8, &[u8], &[u8]); 15] = [
-        (DERIVE, FILE, 0, TEXT, b""),
-        (
-            DERIVE,
-            six_quarks,
-            0,
-            b"model q6\nloops 1\nbeta1 g = -7*g^3\n",
-            b"",
-        ),
-        (
-            &["derive", "1", "text", "64"],
-            two_doublets,
-            0,
-            b"model witten\nloops 1\nbeta1 g = -20/3*g^3\n",
-            b"",
-        ),
-        (&["derive", "1", "text", "64"], FILE, 0, TEXT, b""),
-        (&[], FILE, 2, b"", b"usage\n"),
-        (&["derive", "3", "text", "1"], FILE, 2, b"", b"usage\n"),
-        (&["derive", "1", "text", "0"], FILE, 2, b"", b"usage\n"),
-        (&["derive", "1", "text", "65"], FILE, 2, b"", b"usage\n"),
-        (&["derive", "01", "text", "1"], FILE, 2, b"", b"usage\n"),
-        (&["derive", "1", "text", "01"], FILE, 2, b"", b"usage\n"),
-        (&["show", "ym", "0"], FILE, 2, b"", b"usage\n"),
-        (DERIVE, b"", 5, b"", UNBUILT),
-        (DERIVE, b"profile = ", 5, b"", NOT_TOML),
-        (DERIVE, b"\xff", 5, b"", NOT_TOML),
-        (DERIVE, more, 5, b"", UNBUILT),
+fn words_have_their_answers(rt: HostRuntime) -> Result<(), AllocError> {
+    let rows: [(&[&str], u8, &[u8], &[u8]); 9] = [
+        (DERIVE, 0, TEXT, b""),
+        (&["derive", "1", "text", "64"], 0, TEXT, b""),
+        (&[], 2, b"", b"usage\n"),
+        (&["derive", "3", "text", "1"], 2, b"", b"usage\n"),
+        (&["derive", "1", "text", "0"], 2, b"", b"usage\n"),
+        (&["derive", "1", "text", "65"], 2, b"", b"usage\n"),
+        (&["derive", "01", "text", "1"], 2, b"", b"usage\n"),
+        (&["derive", "1", "text", "01"], 2, b"", b"usage\n"),
+        (&["show", "ym", "0"], 2, b"", b"usage\n"),
     ];
-    for (words, file, code, text, line) in rows {
-        let mut bytes = ByteList::new(alloc);
-        bytes.extend(file)?;
-        let mut out = SureSink::new(alloc, 256)?;
-        let (got, told) = run_over(&rt, alloc, words, &mut SureSource::new(bytes), &mut out)?;
-        assert_eq!(rt; got, code);
-        assert_eq!(rt; out.bytes().unwrap_or(b"lost"), text);
-        assert_eq!(rt; told.bytes().unwrap_or(b"lost"), line);
+    for (words, code, text, line) in rows {
+        check(&rt, rt.alloc(), words, FILE, code, text, line)?;
+    }
+    Ok(())
+}
+
+#[test]
+fn models_have_their_answers(rt: HostRuntime) -> Result<(), AllocError> {
+    let rows: [(&[u8], &[u8]); 8] = [
+        (
+            b"profile = 1\nname = \"ym\"\ngroup = [{name=\"SU3\", n=3, coupling=\"g\"}]\nscalar = []\n",
+            TEXT,
+        ),
+        (
+            b"profile = 1\nname = \"q6\"\ngroup = [{name=\"SU3\", n=3, coupling=\"g\"}]\nfermion = [{name=\"q\", generations=6, reps={SU3=\"fund\"}}, {name=\"qc\", generations=6, reps={SU3=\"conj\"}}]\n",
+            b"model q6\nloops 1\nbeta1 g = -7*g^3\n",
+        ),
+        (
+            b"profile = 1\nname = \"witten\"\ngroup = [{name=\"SU2\", n=2, coupling=\"g\"}]\nfermion = [{name=\"D\", generations=2, reps={SU2=\"fund\"}}]\n",
+            b"model witten\nloops 1\nbeta1 g = -20/3*g^3\n",
+        ),
+        (
+            b"profile = 1\nname = \"QED\"\ngroup = [{name=\"U1\", n=1, coupling=\"g\"}]\nfermion = [{name=\"e\", charge=\"-1\"}, {name=\"ec\", charge=1}]\n",
+            b"model QED\nloops 1\nbeta1 g = 4/3*g^3\n",
+        ),
+        (
+            b"profile = 1\nname = \"sqed\"\ngroup = [{name=\"U1\", n=1, coupling=\"g\"}]\nscalar = [{name=\"p\", charge=\"1\"}]\n",
+            b"model sqed\nloops 1\nbeta1 g = 1/3*g^3\n",
+        ),
+        (
+            b"profile = 1\nname = \"adj2\"\ngroup = [{name=\"SU2\", n=2, coupling=\"g\"}]\nscalar = [{name=\"Phi\", real=true, reps={SU2=\"adjoint\"}}]\n",
+            b"model adj2\nloops 1\nbeta1 g = -7*g^3\n",
+        ),
+        (
+            b"profile = 1\nname = \"SM3\"\ngroup = [{name=\"U1\", n=1, coupling=\"g1\"}, {name=\"SU2\", n=2, coupling=\"g2\"}, {name=\"SU3\", n=3, coupling=\"g3\"}]\nfermion = [{name=\"Q\", generations=3, charge=\"1/6\", reps={SU2=\"fund\", SU3=\"fund\"}}, {name=\"u\", generations=3, charge=\"-2/3\", reps={SU3=\"conj\"}}, {name=\"d\", generations=3, charge=\"1/3\", reps={SU3=\"conj\"}}, {name=\"L\", generations=3, charge=\"-1/2\", reps={SU2=\"fund\"}}, {name=\"e\", generations=3, charge=\"1\"}]\nscalar = [{name=\"H\", charge=\"1/2\", reps={SU2=\"fund\"}}]\n",
+            b"model SM3\nloops 1\nbeta1 g1 = 41/6*g1^3\nbeta1 g2 = -19/6*g2^3\nbeta1 g3 = -7*g3^3\n",
+        ),
+        (
+            b"profile = 1\nname = \"phi\"\nscalar = [{name=\"S\", real=true}]\n",
+            b"model phi\nloops 1\n",
+        ),
+    ];
+    for (file, text) in rows {
+        check(&rt, rt.alloc(), DERIVE, file, 0, text, b"")?;
+    }
+    Ok(())
+}
+
+#[test]
+fn refused_files_have_their_lines(rt: HostRuntime) -> Result<(), AllocError> {
+    let rows: [(&[u8], u8, &[u8]); 7] = [
+        (b"", 5, NO_PROFILE),
+        (b"profile = ", 5, NOT_TOML),
+        (b"\xff", 5, NOT_TOML),
+        (
+            b"profile = 1\nname = \"QED\"\ngroup = [{name=\"U1\", n=1, coupling=\"g\"}, {name=\"V1\", n=1, coupling=\"h\"}]\n",
+            5,
+            b"malformed SecondAbelian group 2 2 0\n",
+        ),
+        (
+            b"profile = 1\nname = \"ym\"\ngroup = [{name=\"SU3\", n=3, coupling=\"g\"}, {name=\"SU3\", n=3, coupling=\"g\"}, {name=\"SU3\", n=3, coupling=\"g\"}, {name=\"SU3\", n=3, coupling=\"g\"}, {name=\"SU3\", n=3, coupling=\"g\"}]\n",
+            5,
+            b"malformed OverLimit file 0 3 5\n",
+        ),
+        (
+            b"profile = 1\nname = \"sqed\"\ngroup = [{name=\"U1\", n=1, coupling=\"g\"}]\nscalar = [{name=\"p\", charge=\"1\"}]\nterm = [{coupling=\"lam\", text=\"p~ p p~ p\"}]\n",
+            5,
+            b"malformed Unbuilt file 0 7 0\n",
+        ),
+        // Of four squared charges with denominators of 12 digits the first three have a sum, and the fourth has none with it.
+        (
+            b"profile = 1\nname = \"odd\"\ngroup = [{name=\"U1\", n=1, coupling=\"g\"}]\nfermion = [{name=\"a\", charge=\"1/999983\"}, {name=\"b\", charge=\"1/999979\"}, {name=\"c\", charge=\"1/999961\"}, {name=\"d\", charge=\"1/999959\"}]\n",
+            8,
+            b"overflow 2999692011857800333237779/999846009606688953526011791399849929 1/999918001681\n",
+        ),
+    ];
+    for (file, code, line) in rows {
+        check(&rt, rt.alloc(), DERIVE, file, code, b"", line)?;
     }
     Ok(())
 }
@@ -127,14 +193,14 @@ fn large_files_have_their_answers(rt: HostRuntime) -> Result<(), AllocError> {
         (FILE, b"\n", b"", 1_048_510, 0, b""),
         (b"a = ", b"[", b"", 5000, 5, NOT_TOML),
         (b"a = ", b"[", b"]", 5000, 5, NOT_TOML),
-        (b"", b"[[group]]\n", b"", 30_000, 5, UNBUILT),
+        (b"", b"[[group]]\n", b"", 30_000, 5, NO_PROFILE),
         (
             b"profile = 1\nname = \"many\"\n",
             groups,
             b"",
             25_000,
             5,
-            UNBUILT,
+            b"malformed OverLimit file 0 3 25000\n",
         ),
     ];
     for (head, piece, closing, count, code, line) in rows {
@@ -171,6 +237,22 @@ fn failed_reads_and_writes_are_noticed(rt: HostRuntime) -> Result<(), AllocError
         assert_eq!(rt; out.bytes(), text);
         assert_eq!(rt; told.bytes().unwrap_or(b"lost"), line);
     }
+    Ok(())
+}
+
+#[test]
+fn refused_fractions_have_their_line(rt: HostRuntime) -> Result<(), AllocError> {
+    let mut line = SureSink::new(rt.alloc(), 256)?;
+    let status = Status::Overflow(Overflow {
+        a: Frac::new(-3, 6).ok().expect(&rt, "a fraction"),
+        b: Frac::whole(7),
+    });
+    assert_eq!(rt; status.write_line(&mut line), Ok(()));
+    assert_eq!(rt;
+        line.bytes().unwrap_or(b"lost"),
+        b"overflow -1/2 7\n".as_slice()
+    );
+    assert_eq!(rt; status.code(), 8);
     Ok(())
 }
 

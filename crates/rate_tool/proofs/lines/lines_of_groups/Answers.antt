@@ -9,7 +9,7 @@ loop-place-preserved c =
     let model = c.args.model.now in
     let i = c.loop-place.place in
     let line : c.push.new.self ≡ c.loop-place.lines ++ line_of model (i, c.item.result.now) ∷ [] =
-    c.in_ok-push.ensures.ok ∙ ap (λ l. c.loop-place.lines ++ l ∷ []) c.line_of.ensures in
+    c.in_ok-push.ensures.ok ∙ ap (λ l. c.loop-place.lines ++ l ∷ []) c.in_ok-line.ensures.value in
     ap (λ ls. ls ++ map (line_of model) (enumerate_from (i + 1) (drop (i + 1) model.groups))) line
     ∙ numbered_more (line_of model) model.groups i c.item.result.now c.loop-place.lines c.item.ensures
     ∙ c.loop-place.invariant
