@@ -15,10 +15,10 @@ use Rattle.model_core.specs.declared.group.Group.{Group}
 use Rattle.model_core.specs.declared.field.Field.{Field}
 use Rattle.model_core.specs.Component.{slot_sizes, tuples, Component, copies_of}
 use Rattle.model_core.specs.Place.{tuple_at}
-use Rattle.model_core.specs.Valid.{is_between, is_group}
+use Rattle.model_core.specs.Valid.{is_between, is_group, is_field, are_fields}
 use Rattle.exact_algebra.specs.Blocks.{length-blocks, block_at, slice_get-append_left, slice_get-append_right}
 use Rattle.model_core.proofs.TupleLaws.{slots_few, length-tuples, by_parts, range_at, tuple_at_place}
-use Rattle.model_core.proofs.ValidLaws.{between, first_passes}
+use Rattle.model_core.proofs.ValidLaws.{both, between, first_passes, field_generations}
 
 -- ---- slots
 
@@ -56,6 +56,12 @@ field_bound g m l few bound short =
 -- each element passes the test
 pub passes_at : {A : Type 0} (test : A → Bool) (xs : List A) (i : ℕ) (d : A) → list_all test xs ≡ true → i < length xs → test (get_or xs i d) ≡ true
 passes_at test xs i d e h = AllPass-from_list_all test xs e i d h
+
+-- the generations of a valid fermion
+pub fermion_generations : (groups : List Group) (fields : List Field) (i : ℕ) (d field : Field) → are_fields groups fields ≡ true → i < length fields → field ≡ get_or fields i d → field.generations ≤ 6
+fermion_generations groups fields i d field valid within is =
+    let each = (both _ (list_all (is_field groups) fields) valid).1 in
+    (field_generations groups field (ap (is_field groups) is ∙ passes_at (is_field groups) fields i d each within)).1
 
 positive_factor : (n m place : ℕ) → place < n * m → 0 < m
 positive_factor n zero place h = absurd (omega (arith, h))

@@ -1,3 +1,4 @@
+pub mod ListLaws
 pub mod Traces
 pub mod ValidLaws
 pub mod TupleLaws

@@ -13,7 +13,7 @@ use Rattle.model_core.specs.declared.model.Model.{Model}
 use Rattle.model_core.specs.Component.{fermion_components}
 use Rattle.model_core.specs.Scalar.{scalar_components}
 use Rattle.model_core.proofs.Traces.{AreSpecial}
-use Rattle.model_core.specs.Valid.{is_between, is_abelian, has_one_abelian, is_group, is_rep, are_reps, has_charge_of, is_field, are_groups, has_valid_parts, are_distinct, names_of, IsValid, has_few_components, are_scalars, are_fields, is_scalar}
+use Rattle.model_core.specs.Valid.{is_between, is_abelian, has_one_abelian, is_group, is_rep, are_reps, has_charge_of, is_field, are_groups, has_valid_fields, has_valid_parts, are_distinct, names_of, IsValid, has_few_components, are_scalars, are_fields, is_scalar, are_tables}
 
 -- both tests hold
 pub both : (a b : Bool) → (a && b) ≡ true → (a ≡ true) × (b ≡ true)
@@ -62,17 +62,20 @@ valid_scalar_count model valid =
     let test = (both (nat_le (length (fermion_components model)) 512) _ (few_components model valid)).1 in
     grind (arith, nat_tests)
 
+parts_are_fields : (model : Model) → has_valid_parts model ≡ true → has_valid_fields model ≡ true
+parts_are_fields model valid = (both (has_valid_fields model) (are_tables model.groups model.tables) valid).0
+
 pub parts_groups : (model : Model) → has_valid_parts model ≡ true → are_groups model.groups ≡ true
-parts_groups model valid = (both (are_groups model.groups) _ (both _ (are_scalars model.groups model.scalars) valid).0).0
+parts_groups model valid = (both (are_groups model.groups) _ (both _ (are_scalars model.groups model.scalars) (parts_are_fields model valid)).0).0
 
 pub parts_fermions : (model : Model) → has_valid_parts model ≡ true → are_fields model.groups model.fermions ≡ true
-parts_fermions model valid = (both (are_groups model.groups) _ (both _ (are_scalars model.groups model.scalars) valid).0).1
+parts_fermions model valid = (both (are_groups model.groups) _ (both _ (are_scalars model.groups model.scalars) (parts_are_fields model valid)).0).1
 
 pub parts_fields : (model : Model) → has_valid_parts model ≡ true → list_all (is_field model.groups) model.fermions ≡ true
 parts_fields model valid = (both _ (list_all (is_field model.groups) model.fermions) (parts_fermions model valid)).1
 
 pub parts_scalars : (model : Model) → has_valid_parts model ≡ true → are_scalars model.groups model.scalars ≡ true
-parts_scalars model valid = (both _ (are_scalars model.groups model.scalars) valid).1
+parts_scalars model valid = (both _ (are_scalars model.groups model.scalars) (parts_are_fields model valid)).1
 
 -- a scalar is as a field must be
 scalar_fields : (groups : List Group) (fields : List Field) → list_all (is_scalar groups) fields ≡ true → list_all (is_field groups) fields ≡ true

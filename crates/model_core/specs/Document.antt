@@ -1,6 +1,6 @@
 -- The document that the bytes of a file are, and the model that it names. Each value stands for what its type says; what
 -- isn't there, or isn't in its form, counts as left out. Only a document without a bad place is read (see Walk).
-use Rattle.std.specs.Prelude.{ℕ, Bool, false, if◌then◌else◌, unsigned_abs, List, [], ◌∷◌, map, Option, Some, None, option_and_then, unwrap_or, codes}
+use Rattle.std.specs.Prelude.{ℕ, Bool, false, ◌&&◌, if◌then◌else◌, unsigned_abs, List, [], ◌∷◌, map, position, Option, Some, None, option_and_then, unwrap_or, codes}
 use Rattle.std.specs.Str.{is_utf8, bytes_eq}
 use Rattle.toml.specs.Data.{Data, string, integer, boolean, array, table, Items, no_items, item, Members, no_members, get_member, as_str}
 use Rattle.toml.specs.Parse.{parse_document}
@@ -9,9 +9,11 @@ use Rattle.su_reps.specs.declared.rep.Rep.{Rep}
 use Rattle.su_reps.specs.declared.rep.Rep.TheVariants.{Singlet, Fund, Conj, Adjoint, Sym2, Sym2Conj, Anti2, Anti2Conj}
 use Rattle.model_core.specs.declared.group.Group.{Group}
 use Rattle.model_core.specs.declared.field.Field.{Field}
+use Rattle.model_core.specs.declared.table.Entry.{Entry}
+use Rattle.model_core.specs.declared.table.Table.{Table}
 use Rattle.model_core.specs.declared.model.Model.{Model}
 use Rattle.model_core.specs.Literal.{fraction_in}
-use Rattle.model_core.specs.Valid.{is_abelian}
+use Rattle.model_core.specs.Valid.{is_abelian, is_special}
 
 -- the document that the bytes are: a text in UTF-8 that the grammar of TOML takes
 unfoldable pub document : List ℕ → Option Members
@@ -47,6 +49,15 @@ tables_among (item _ rest) = tables_among rest
 abbrev pub tables_of : Data → List Members
 tables_of (array items) = tables_among items
 tables_of _ = []
+
+-- the elements of an array
+abbrev pub elements : Items → List Data
+elements no_items = []
+elements (item value rest) = value ∷ elements rest
+
+abbrev pub elements_of : Data → List Data
+elements_of (array items) = elements items
+elements_of _ = []
 
 -- a representation of SU(n), by its word
 abbrev pub rep_named : List ℕ → Option Rep
@@ -104,6 +115,39 @@ fermion_of = field_of false
 unfoldable pub scalar_of : List Group → Members → Field
 scalar_of groups members = field_of (value_or truth_of false (get_member (codes "real") members)) groups members
 
+-- the group SU(n) of this name
+abbrev pub is_named : List ℕ → Group → Bool
+is_named name group = is_special group && bytes_eq name group.name
+
+-- the place of the group SU(n) that a text names
+abbrev pub slot_of : List Group → Data → ℕ
+slot_of groups value = unwrap_or (position (is_named (text_of value)) groups) 0
+
+abbrev pub slots_of : List Group → Data → List ℕ
+slots_of groups value = map (slot_of groups) (elements_of value)
+
+-- an entry's numbers
+abbrev pub numbers_of : Data → List ℕ
+numbers_of value = map number_of (elements_of value)
+
+-- a fraction and the place where it stands
+unfoldable pub entry_of : Data → Entry
+entry_of value = record {
+  at = value_or numbers_of [] (get_member (codes "at") (members_of value));
+  value = value_or fraction_of zero_ℚ (get_member (codes "value") (members_of value));
+}
+
+abbrev pub entries_of : Data → List Entry
+entries_of value = map entry_of (elements_of value)
+
+-- a tensor of fractions
+unfoldable pub table_of : List Group → Members → Table
+table_of groups members = record {
+  name = value_or text_of [] (get_member (codes "name") members);
+  slots = value_or (slots_of groups) [] (get_member (codes "slots") members);
+  entries = value_or entries_of [] (get_member (codes "entries") members);
+}
+
 -- the tables under a key of the file
 abbrev pub tables_at : List ℕ → Members → List Members
 tables_at key members = value_or tables_of [] (get_member key members)
@@ -118,4 +162,5 @@ model_of members = record {
   groups = groups_of members;
   fermions = map (fermion_of (groups_of members)) (tables_at (codes "fermion") members);
   scalars = map (scalar_of (groups_of members)) (tables_at (codes "scalar") members);
+  tables = map (table_of (groups_of members)) (tables_at (codes "table") members);
 }

@@ -12,3 +12,4 @@ pub mod Literal
 pub mod Document
 pub mod Walk
 pub mod Reading
+pub mod TermText

@@ -1,9 +1,11 @@
 -- Which models are valid: the rules on a model's parts and the limits of its sizes.
-use Rattle.std.specs.Prelude.{ℕ, Bool, true, false, ◌&&◌, ◌||◌, not, ◌==◌, nat_le, List, [], ◌∷◌, ◌++◌, map, length, IsTrue}
-use Rattle.std.specs.List.{flat_map, list_all, list_any}
+use Rattle.std.specs.Prelude.{ℕ, Bool, true, false, ◌&&◌, ◌||◌, not, ◌==◌, nat_le, List, [], ◌∷◌, ◌++◌, map, length, Option, Some, None, IsTrue}
+use Rattle.std.specs.List.{flat_map, list_all, list_any, slice_get}
 use Rattle.std.specs.Str.{bytes_eq}
 use Rattle.model_core.specs.declared.group.Group.{Group}
 use Rattle.model_core.specs.declared.field.Field.{Field}
+use Rattle.model_core.specs.declared.table.Entry.{Entry}
+use Rattle.model_core.specs.declared.table.Table.{Table}
 use Rattle.model_core.specs.declared.model.Model.{Model}
 use Rattle.frac128.specs.Rational.{zero_ℚ, eq_ℚ}
 use Rattle.su_reps.specs.declared.rep.Rep.{Rep}
@@ -20,19 +22,26 @@ abbrev pub are_distinct : List (List ℕ) → Bool
 are_distinct [] = true
 are_distinct (text ∷ texts) = not (list_any (bytes_eq text) texts) && are_distinct texts
 
--- the names of groups, of their couplings, of fermions and of scalars, which have to be distinct
+-- the names of groups, of their couplings, of fermions, of scalars and of tables, which have to be distinct
 abbrev pub group_names : Group → List (List ℕ)
 group_names group = group.name ∷ group.coupling ∷ []
 
 abbrev pub field_name : Field → List ℕ
 field_name field = field.name
 
+abbrev pub table_name : Table → List ℕ
+table_name table = table.name
+
 abbrev pub names_of : Model → List (List ℕ)
-names_of model = flat_map group_names model.groups ++ map field_name model.fermions ++ map field_name model.scalars
+names_of model = flat_map group_names model.groups ++ map field_name model.fermions ++ map field_name model.scalars ++ map table_name model.tables
 
 -- a group with n = 1 is the U(1)
 abbrev pub is_abelian : Group → Bool
 is_abelian group = group.n == 1
+
+-- any other group is SU(n)
+abbrev pub is_special : Group → Bool
+is_special group = not (is_abelian group)
 
 -- at most one U(1)
 abbrev pub has_one_abelian : List Group → Bool
@@ -83,10 +92,59 @@ is_scalar groups field = is_field groups field && (not field.real || (list_all i
 abbrev pub are_scalars : List Group → List Field → Bool
 are_scalars groups fields = nat_le (length fields) 12 && list_all (is_scalar groups) fields
 
--- parts that meet their rules, and few enough of them
-abbrev pub has_valid_parts : Model → Bool
-has_valid_parts model =
+-- a slot is the place of a group SU(n), counted from 0
+abbrev pub has_special : Option Group → Bool
+has_special None = false
+has_special (Some group) = is_special group
+
+abbrev pub is_slot : List Group → ℕ → Bool
+is_slot groups slot = has_special (slice_get groups slot)
+
+-- the n of the group at a place, and 0 where there is none
+abbrev pub dimension_of : Option Group → ℕ
+dimension_of None = 0
+dimension_of (Some group) = group.n
+
+abbrev pub slot_size : List Group → ℕ → ℕ
+slot_size groups slot = dimension_of (slice_get groups slot)
+
+-- a value from 1 to n for each slot
+abbrev pub are_values : List Group → List ℕ → List ℕ → Bool
+are_values groups [] [] = true
+are_values groups (slot ∷ slots) (value ∷ values) = is_between 1 (slot_size groups slot) value && are_values groups slots values
+are_values groups _ _ = false
+
+-- an entry's values
+abbrev pub entry_at : Entry → List ℕ
+entry_at entry = entry.at
+
+abbrev pub is_entry : List Group → List ℕ → Entry → Bool
+is_entry groups slots entry = are_values groups slots entry.at
+
+-- 1 to 8 slots
+abbrev pub are_slots : List Group → List ℕ → Bool
+are_slots groups slots = is_between 1 8 (length slots) && list_all (is_slot groups) slots
+
+-- at most 512 entries, no two at the same values
+abbrev pub are_entries : List Group → List ℕ → List Entry → Bool
+are_entries groups slots entries = (nat_le (length entries) 512 && list_all (is_entry groups slots) entries) && are_distinct (map entry_at entries)
+
+-- such slots and such entries
+abbrev pub is_table : List Group → Table → Bool
+is_table groups table = are_slots groups table.slots && are_entries groups table.slots table.entries
+
+-- at most 16 tables
+abbrev pub are_tables : List Group → List Table → Bool
+are_tables groups tables = nat_le (length tables) 16 && list_all (is_table groups) tables
+
+-- groups and fields that meet their rules, and few enough of them
+abbrev pub has_valid_fields : Model → Bool
+has_valid_fields model =
     (are_groups model.groups && are_fields model.groups model.fermions) && are_scalars model.groups model.scalars
+
+-- the same of all parts
+abbrev pub has_valid_parts : Model → Bool
+has_valid_parts model = has_valid_fields model && are_tables model.groups model.tables
 
 -- at most 512 fermion components, and at most 256 scalar coordinates without the dummy
 abbrev pub has_few_components : Model → Bool

@@ -1,5 +1,5 @@
 -- The bad places of a document, each rule's where its condition holds, in the order of the walk: the file's table, then
--- all groups, fermions and scalars in file order. At one place the rule that comes first is the one that counts.
+-- all groups, fermions, scalars and tables in file order. At one place the rule that comes first is the one that counts.
 use Rattle.std.specs.Prelude.{ℕ, suc, ◌==◌, nat_lt, Bool, true, false, not, ◌&&◌, if◌then◌else◌, pos, negsuc, List, [], ◌∷◌, ◌++◌, map, length, Option, Some, None, is_some, codes}
 use Rattle.std.specs.List.{flat_map, list_any, list_all}
 use Rattle.std.specs.Str.{bytes_eq}
@@ -7,6 +7,8 @@ use Rattle.toml.specs.Data.{Data, string, integer, boolean, array, table, Items,
 use Rattle.frac128.specs.Rational.{zero_ℚ, eq_ℚ}
 use Rattle.model_core.specs.declared.group.Group.{Group}
 use Rattle.model_core.specs.declared.field.Field.{Field}
+use Rattle.model_core.specs.declared.table.Entry.{Entry}
+use Rattle.model_core.specs.declared.table.Table.{Table}
 use Rattle.model_core.specs.declared.fault.ReadFault.{ReadFault}
 use Rattle.model_core.specs.declared.fault.ReadKind.{ReadKind}
 use Rattle.model_core.specs.declared.fault.ReadKind.TheVariants.{UnknownKey, MissingKey, WrongType, BadName, RepeatedName, BadNumber, BadGroup, SecondAbelian, BadRep, BadRealScalar, Unbuilt}
@@ -17,9 +19,9 @@ use Rattle.model_core.specs.Fault.{fault, over}
 use Rattle.model_core.specs.Name.{is_name, is_latex}
 use Rattle.model_core.specs.Component.{components_of}
 use Rattle.model_core.specs.Scalar.{coordinates_of}
-use Rattle.model_core.specs.Valid.{is_between, is_abelian, is_real_rep, group_names, field_name}
-use Rattle.model_core.specs.Literal.{fraction_in}
-use Rattle.model_core.specs.Document.{text_of, number_of, fraction_of, rep_named, group_of, field_of, fermion_of, scalar_of, tables_among, tables_at}
+use Rattle.model_core.specs.Valid.{is_between, is_abelian, is_real_rep, group_names, field_name, table_name, slot_size, entry_at}
+use Rattle.model_core.specs.Literal.{within, fraction_in}
+use Rattle.model_core.specs.Document.{text_of, number_of, fraction_of, members_of, elements, elements_of, value_or, rep_named, group_of, field_of, fermion_of, scalar_of, is_named, entry_of, table_of, tables_among, tables_at}
 
 -- ---- rules
 
@@ -76,11 +78,8 @@ are_texts no_members = true
 are_texts (member key value rest) = is_text value && are_texts rest
 
 -- words for representations, under names of groups SU(n)
-abbrev pub is_special : Group → Bool
-is_special group = not (is_abelian group)
-
 abbrev pub names_special : List Group → List ℕ → Bool
-names_special groups name = list_any (λ group. is_special group && bytes_eq name group.name) groups
+names_special groups name = list_any (is_named name) groups
 
 abbrev pub are_reps_named : List Group → Members → Bool
 are_reps_named groups no_members = true
@@ -174,15 +173,91 @@ key_places place keys members = unknown_places (map (λ (key : Key). key.name) k
 abbrev pub table_places : FaultPlace → List Key → Members → List ReadFault
 table_places place keys members = key_places place keys members ++ value_places (key_place place 1) keys members
 
+-- ---- rules on the slots and entries of a table
+
+-- a number of slots from 1 to 8
+abbrev pub slot_count_places : ℕ → FaultPlace → List ReadFault
+slot_count_places count place = if is_between 1 8 count then [] else over place count ∷ []
+
+-- texts that name groups SU(n), and then their number
+abbrev pub slot_list_places : List Group → FaultPlace → List Data → List ReadFault
+slot_list_places groups place values =
+    if not (list_all is_text values) then fault place WrongType ∷ []
+    else bad_where (not (list_all (λ value. names_special groups (text_of value)) values)) place BadGroup ++ slot_count_places (length values) place
+
+-- an array of such texts
+abbrev pub slots_places : List Group → FaultPlace → Data → List ReadFault
+slots_places groups place (array items) = slot_list_places groups place (elements items)
+slots_places groups place _ = fault place WrongType ∷ []
+
+-- an array of integers
+abbrev pub is_integer : Data → Bool
+is_integer (integer number) = true
+is_integer _ = false
+
+abbrev pub are_integers : Data → Bool
+are_integers (array items) = list_all is_integer (elements items)
+are_integers _ = false
+
+-- an integer or a text
+abbrev pub is_literal : Data → Bool
+is_literal (integer number) = true
+is_literal (string text) = true
+is_literal _ = false
+
+-- a table with integers under `at`, a fraction under `value`, and no other key
+abbrev pub is_entry_table : Data → Bool
+is_entry_table (table members) =
+    keys_are_among (codes "at" ∷ codes "value" ∷ []) members
+    && (value_or are_integers false (get_member (codes "at") members) && value_or is_literal false (get_member (codes "value") members))
+is_entry_table _ = false
+
+-- a number from 1 to n
+abbrev pub slot_value : ℕ → Data → Option ℕ
+slot_value n (integer (pos number)) = within 1 n number
+slot_value n _ = None
+
+-- a number from 1 to n for each slot
+abbrev pub are_slot_values : List Group → List ℕ → List Data → Bool
+are_slot_values groups [] [] = true
+are_slot_values groups (slot ∷ slots) (value ∷ values) = is_some (slot_value (slot_size groups slot) value) && are_slot_values groups slots values
+are_slot_values groups _ _ = false
+
+-- an entry's numbers, one for each slot
+abbrev pub at_places : List Group → List ℕ → FaultPlace → Data → List ReadFault
+at_places groups slots place value = bad_where (not (are_slot_values groups slots (elements_of value))) place BadNumber
+
+-- an entry after earlier ones: its form, its numbers, its fraction, and whether an earlier one has the same numbers
+unfoldable pub entry_places : List Group → List ℕ → FaultPlace → List Entry → Data → List ReadFault
+entry_places groups slots place earlier value =
+    bad_where (not (is_entry_table value)) place WrongType
+    ++ (found_places (at_places groups slots place) (get_member (codes "at") (members_of value))
+    ++ (found_places (fraction_places place) (get_member (codes "value") (members_of value))
+    ++ bad_where (list_any (bytes_eq (entry_of value).at) (map entry_at earlier)) place RepeatedName))
+
+-- each element of a list after what the earlier ones stand for
+abbrev pub places_after : {A B : Type 0} → (List A → B → List ReadFault) → (B → A) → List A → List B → List ReadFault
+places_after places meaning earlier [] = []
+places_after places meaning earlier (first ∷ rest) = places earlier first ++ places_after places meaning (earlier ++ meaning first ∷ []) rest
+
+-- at most 512 entries, and then each after the earlier ones
+abbrev pub entry_list_places : List Group → List ℕ → FaultPlace → List Data → List ReadFault
+entry_list_places groups slots place values = over_limit 512 (length values) place ++ places_after (entry_places groups slots place) entry_of [] values
+
+-- an array of such entries
+abbrev pub entries_places : List Group → List ℕ → FaultPlace → Data → List ReadFault
+entries_places groups slots place (array items) = entry_list_places groups slots place (elements items)
+entries_places groups slots place _ = fault place WrongType ∷ []
+
 -- ---- the keys of each table
 
--- the parts, with their limits; tables and terms aren't built yet
+-- the parts, with their limits; terms aren't built yet
 abbrev pub part_keys : List Key
 part_keys =
     optional (codes "group") (tables_places 4)
     ∷ optional (codes "fermion") (tables_places 24)
     ∷ optional (codes "scalar") (tables_places 12)
-    ∷ optional (codes "table") unbuilt_places
+    ∷ optional (codes "table") (tables_places 16)
     ∷ optional (codes "term") unbuilt_places
     ∷ []
 
@@ -211,12 +286,15 @@ fermion_keys groups earlier =
 abbrev pub scalar_keys : List Group → List (List ℕ) → Members → List Key
 scalar_keys groups earlier members = fermion_keys groups earlier ++ optional (codes "real") (real_places (field_of false groups members)) ∷ []
 
--- ---- the whole document
+-- a table after earlier names
+abbrev pub table_keys : List Group → List (List ℕ) → Members → List Key
+table_keys groups earlier members =
+    required (codes "name") (name_places earlier)
+    ∷ required (codes "slots") (slots_places groups)
+    ∷ required (codes "entries") (entries_places groups (table_of groups members).slots)
+    ∷ []
 
--- each table of a list after what the earlier ones stand for
-abbrev pub places_after : {A : Type 0} → (List A → Members → List ReadFault) → (Members → A) → List A → List Members → List ReadFault
-places_after places meaning earlier [] = []
-places_after places meaning earlier (members ∷ rest) = places earlier members ++ places_after places meaning (earlier ++ meaning members ∷ []) rest
+-- ---- the whole document
 
 unfoldable pub group_places : List Group → Members → List ReadFault
 group_places earlier members = table_places (place_of part.Group (suc (length earlier)) 0) (group_keys earlier members) members
@@ -227,6 +305,13 @@ fermion_places groups index names members = table_places (place_of part.Fermion 
 
 unfoldable pub scalar_places : List Group → ℕ → List (List ℕ) → Members → List ReadFault
 scalar_places groups index names members = table_places (place_of part.Scalar index 0) (scalar_keys groups names members) members
+
+-- a table of the part `table`, with its number and the names before it
+unfoldable pub tensor_places : List Group → ℕ → List (List ℕ) → Members → List ReadFault
+tensor_places groups index names members = table_places (place_of part.Table index 0) (table_keys groups names members) members
+
+abbrev pub tensor_after : List Group → List (List ℕ) → List Table → Members → List ReadFault
+tensor_after groups names earlier = tensor_places groups (suc (length earlier)) (names ++ map table_name earlier)
 
 -- a field after earlier ones of its part, whose names stand after those of the parts before
 abbrev pub fermion_after : List Group → List (List ℕ) → List Field → Members → List ReadFault
@@ -251,16 +336,23 @@ scalars_places groups names tables =
     places_after (scalar_after groups names) (scalar_of groups) [] tables
     ++ over_limit 256 (length (flat_map (coordinates_of groups) (map (scalar_of groups) tables))) (place_of part.Scalar 0 0)
 
+-- all tables after earlier names
+unfoldable pub tensors_places : List Group → List (List ℕ) → List Members → List ReadFault
+tensors_places groups names tables = places_after (tensor_after groups names) (table_of groups) [] tables
+
 -- the parts, by the tables of each
-unfoldable pub part_places : List Members → List Members → List Members → List ReadFault
-part_places group_tables fermion_tables scalar_tables =
+unfoldable pub part_places : List Members → List Members → List Members → List Members → List ReadFault
+part_places group_tables fermion_tables scalar_tables tensor_tables =
     let groups = map group_of group_tables in
     let names = flat_map group_names groups in
     let fermions = map (fermion_of groups) fermion_tables in
+    let scalars = map (scalar_of groups) scalar_tables in
     groups_places group_tables
-    ++ (fermions_places groups names fermion_tables ++ scalars_places groups (names ++ map field_name fermions) scalar_tables)
+    ++ (fermions_places groups names fermion_tables
+    ++ (scalars_places groups (names ++ map field_name fermions) scalar_tables
+    ++ tensors_places groups ((names ++ map field_name fermions) ++ map field_name scalars) tensor_tables))
 
 -- all bad places
 unfoldable pub bad_places : Members → List ReadFault
 bad_places members =
-    table_places (place_of part.File 0 0) file_keys members ++ part_places (tables_at (codes "group") members) (tables_at (codes "fermion") members) (tables_at (codes "scalar") members)
+    table_places (place_of part.File 0 0) file_keys members ++ part_places (tables_at (codes "group") members) (tables_at (codes "fermion") members) (tables_at (codes "scalar") members) (tables_at (codes "table") members)

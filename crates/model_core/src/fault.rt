@@ -15,11 +15,11 @@ pub enum ReadKind {
     WrongType = 4,
     /// A text is no name, or no text in LaTeX.
     BadName = 5,
-    /// An earlier group, coupling or field has the same name.
+    /// An earlier group, coupling, field or table has the same name, or an earlier entry the same place.
     RepeatedName = 6,
-    /// A number is out of its range, or a text is no fraction.
+    /// A number is out of its range, a text is no fraction, or an entry has too few or too many numbers for its place.
     BadNumber = 7,
-    /// No group has this n, or a field has a charge where no group is a U(1).
+    /// No group has this n, a field has a charge where no group is a U(1), or a slot is no group SU(n).
     BadGroup = 8,
     /// An earlier group is a U(1) too.
     SecondAbelian = 9,

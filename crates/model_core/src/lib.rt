@@ -11,6 +11,8 @@ mod inline;
 mod leg;
 mod model;
 mod name;
+mod sum;
+mod table;
 #[cfg(test)]
 mod tests;
 mod valid;
@@ -26,5 +28,10 @@ pub use group::{Group, GroupList};
 pub use inline::InlineBytes;
 pub use leg::{Leg, Slots};
 pub use model::Model;
-pub use name::{BadName, Latex, Name, NameList};
-pub use valid::is_valid;
+pub use name::{BadName, Latex, Name, NameList, is_word_byte};
+pub use sum::{
+    Bracket, Index, Span, SpanList, Sum, Token, TokenList, WrittenFactor, WrittenFactorList,
+    WrittenLiteral, WrittenMonomial,
+};
+pub use table::{Entry, EntryList, Table, TableList};
+pub use valid::{has_entry_at, is_valid, slot_size};

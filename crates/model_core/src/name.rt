@@ -78,7 +78,7 @@ fn is_reserved(text: &[u8]) -> bool
 }
 
 /// Whether the byte may stand in a name after its first.
-fn is_word_byte(byte: u8) -> bool
+pub fn is_word_byte(byte: u8) -> bool
     ensures { result ≡ is_word_byte byte }
 {
     byte.is_ascii_alphanumeric() || byte == b'_'

@@ -1,9 +1,9 @@
 //! Components and coordinates of a model with two groups, and names, by values counted by hand.
 use crate::{
-    Field, FieldList, Group, GroupList, Latex, Leg, Model, Name, RepList, fermion_count,
-    fermion_leg, is_valid, partner, scalar_count, scalar_leg,
+    Entry, EntryList, Field, FieldList, Group, GroupList, Latex, Leg, Model, Name, RepList, Table,
+    TableList, fermion_count, fermion_leg, is_valid, partner, scalar_count, scalar_leg,
 };
-use frac128::Frac;
+use frac128::{Frac, NumberList};
 use std::alloc::Global;
 use std::process::Abort;
 use std::test::Fail;
@@ -57,6 +57,7 @@ fn model_of(rt: &impl Abort, alloc: Global) -> Result<Model, Fail> {
         groups,
         fermions,
         scalars: FieldList::new(alloc),
+        tables: TableList::new(alloc),
     })
 }
 
@@ -229,6 +230,7 @@ fn charged_model(
         groups,
         fermions,
         scalars,
+        tables: TableList::new(alloc),
     })
 }
 
@@ -283,9 +285,170 @@ fn a_model_without_groups(rt: HostRuntime) -> Result<(), Fail> {
         groups: GroupList::new(alloc),
         fermions,
         scalars: FieldList::new(alloc),
+        tables: TableList::new(alloc),
     };
     assert!(rt; is_valid(rt.alloc(), &model)?);
     assert_eq!(rt; fermion_count(&model), 3);
     assert_eq!(rt; scalar_count(&model), 1);
+    Ok(())
+}
+
+// A list of numbers.
+fn numbers_of(alloc: Global, numbers: &[u32]) -> Result<NumberList, Fail> {
+    let mut list = NumberList::new(alloc);
+    for number in numbers {
+        list.push(*number)?;
+    }
+    Ok(list)
+}
+
+// A table without entries.
+fn table_of(rt: &impl Abort, alloc: Global, name: &str, slots: &[u32]) -> Result<Table, Fail> {
+    Ok(Table {
+        name: name_of(rt, name),
+        slots: numbers_of(alloc, slots)?,
+        entries: EntryList::new(alloc),
+    })
+}
+
+fn push_entry(alloc: Global, table: &mut Table, at: &[u32]) -> Result<(), Fail> {
+    table.entries.push(Entry {
+        at: numbers_of(alloc, at)?,
+        value: Frac::one(),
+    })?;
+    Ok(())
+}
+
+// Whether the model with SU(2) at place 0 and SU(3) at place 1, and with a table, is valid.
+fn is_table_valid(rt: &impl Abort, alloc: Global, table: Table) -> Result<bool, Fail> {
+    let mut model = model_of(rt, alloc)?;
+    model.tables.push(table)?;
+    Ok(is_valid(alloc, &model)?)
+}
+
+#[test]
+fn tables_with_two_entries(rt: HostRuntime) -> Result<(), Fail> {
+    // The slots, the places of two entries, and validity.
+    let rows: [(&[u32], &[u32], &[u32], bool); 16] = [
+        (&[0], &[1], &[2], true),
+        (&[0, 1], &[1, 1], &[2, 3], true),
+        (&[1, 0], &[3, 2], &[1, 1], true),
+        (&[0, 1], &[2, 3], &[2, 2], true),
+        (&[0, 1], &[2, 3], &[2, 3], false),
+        (&[0, 1], &[1, 1], &[3, 1], false),
+        (&[0, 1], &[1, 1], &[1, 4], false),
+        (&[0, 1], &[0, 1], &[1, 1], false),
+        (&[0, 1], &[1, 1], &[1], false),
+        (&[0, 1], &[1, 1], &[1, 2, 1], false),
+        (&[0, 1], &[], &[1, 1], false),
+        (&[2], &[1], &[2], false),
+        (&[0, 2], &[1, 1], &[2, 1], false),
+        (&[], &[], &[], false),
+        (
+            &[0, 0, 0, 0, 0, 0, 0, 1],
+            &[1, 1, 1, 1, 1, 1, 1, 1],
+            &[1, 1, 1, 1, 1, 1, 1, 3],
+            true,
+        ),
+        (
+            &[0, 0, 0, 0, 0, 0, 0, 0, 0],
+            &[1, 1, 1, 1, 1, 1, 1, 1, 1],
+            &[1, 1, 1, 1, 1, 1, 1, 1, 2],
+            false,
+        ),
+    ];
+    let alloc = rt.alloc();
+    for (slots, first, second, valid) in rows {
+        let mut table = table_of(&rt, alloc, "t", slots)?;
+        push_entry(alloc, &mut table, first)?;
+        push_entry(alloc, &mut table, second)?;
+        assert_eq!(rt; is_table_valid(&rt, alloc, table)?, valid);
+    }
+    Ok(())
+}
+
+#[test]
+fn tables_without_entries(rt: HostRuntime) -> Result<(), Fail> {
+    // The slots, and validity.
+    let rows: [(&[u32], bool); 6] = [
+        (&[0], true),
+        (&[1, 1, 1, 1, 1, 1, 1, 1], true),
+        (&[1, 1, 1, 1, 1, 1, 1, 1, 1], false),
+        (&[], false),
+        (&[2], false),
+        (&[1, 0, 4294967295], false),
+    ];
+    let alloc = rt.alloc();
+    for (slots, valid) in rows {
+        let table = table_of(&rt, alloc, "t", slots)?;
+        assert_eq!(rt; is_table_valid(&rt, alloc, table)?, valid);
+    }
+    Ok(())
+}
+
+#[test]
+fn no_slot_of_the_abelian_group(rt: HostRuntime) -> Result<(), Fail> {
+    let rows: [(u32, bool); 3] = [(0, false), (1, true), (2, false)];
+    let alloc = rt.alloc();
+    for (slot, valid) in rows {
+        let mut model = charged_model(&rt, alloc, (1, 2), Rep::Singlet, (0, 0), false)?;
+        model.tables.push(table_of(&rt, alloc, "t", &[slot])?)?;
+        assert_eq!(rt; is_valid(alloc, &model)?, valid);
+    }
+    Ok(())
+}
+
+#[test]
+fn names_of_tables(rt: HostRuntime) -> Result<(), Fail> {
+    // The groups are SU2 and SU3 with the couplings g2 and g3, and the fermions Q and u.
+    let rows: [(&str, &str, bool); 7] = [
+        ("t", "s", true),
+        ("t", "t", false),
+        ("SU2", "t", false),
+        ("t", "g3", false),
+        ("Q", "t", false),
+        ("t", "u", false),
+        ("M", "U", true),
+    ];
+    let alloc = rt.alloc();
+    for (first, second, valid) in rows {
+        let mut model = model_of(&rt, alloc)?;
+        model.tables.push(table_of(&rt, alloc, first, &[0])?)?;
+        model.tables.push(table_of(&rt, alloc, second, &[1])?)?;
+        assert_eq!(rt; is_valid(alloc, &model)?, valid, "{first} {second}");
+    }
+    Ok(())
+}
+
+#[test]
+fn as_many_tables_and_entries_as_there_may_be(rt: HostRuntime) -> Result<(), Fail> {
+    let alloc = rt.alloc();
+    let rows: [(u32, bool); 2] = [(16, true), (17, false)];
+    for (count, valid) in rows {
+        let mut model = model_of(&rt, alloc)?;
+        for i in 0..count {
+            let name = format!(in alloc; "t{i}")?;
+            model
+                .tables
+                .push(table_of(&rt, alloc, name.as_str(), &[0])?)?;
+        }
+        assert_eq!(rt; is_valid(alloc, &model)?, valid);
+    }
+    let rows: [(u32, bool); 2] = [(512, true), (513, false)];
+    for (count, valid) in rows {
+        let mut table = table_of(&rt, alloc, "t", &[1, 1, 1, 1, 1, 1])?;
+        for i in 0..count {
+            let at = [
+                i / 243 % 3 + 1,
+                i / 81 % 3 + 1,
+                i / 27 % 3 + 1,
+                i / 9 % 3 + 1,
+                i / 3 % 3 + 1,
+                i % 3 + 1,
+            ];
+            push_entry(alloc, &mut table, at.as_slice())?;
+        }
+        assert_eq!(rt; is_table_valid(&rt, alloc, table)?, valid);
+    }
     Ok(())
 }

@@ -2,13 +2,14 @@
 ghost use Rattle.std.specs.Prelude.{◌≡◌, ◌∷◌, [], ◌++◌, ◌&&◌, false, true, length, map, IfOk};
 ghost use Rattle.std.specs.List.{flat_map, list_all, list_any};
 ghost use Rattle.std.specs.Str.{bytes_eq};
-ghost use Rattle.model_core.specs.Valid.{is_between, is_abelian, has_one_abelian, is_group, is_rep, are_reps, has_charge_of, is_field, are_groups, are_fields, is_real_rep, is_scalar, are_scalars, has_valid_parts, has_few_components, are_distinct, names_of, group_names, field_name, is_valid};
+ghost use Rattle.model_core.specs.Valid.{is_between, is_abelian, has_one_abelian, is_group, is_rep, are_reps, has_charge_of, is_field, are_groups, are_fields, is_real_rep, is_scalar, are_scalars, is_slot, slot_size, are_slots, are_values, entry_at, is_entry, are_entries, is_table, are_tables, has_valid_fields, has_valid_parts, has_few_components, are_distinct, names_of, group_names, field_name, table_name, is_valid};
 
 use crate::component::{component_count, coordinate_count};
 use crate::field::Field;
 use crate::group::Group;
 use crate::model::Model;
 use crate::name::{Name, NameList};
+use crate::table::{Entry, Table};
 use frac128::Frac;
 use std::alloc::{AllocError, Global};
 use su_reps::Rep;
@@ -172,9 +173,135 @@ fn are_scalars(groups: &[Group], fields: &[Field]) -> bool
     are_all_scalars(groups, fields)
 }
 
-/// Whether the parts of a model meet their rules, and are few enough.
-fn has_valid_parts(model: &Model) -> bool
-    ensures { result ≡ has_valid_parts model.now }
+/// Whether a slot is the place of a group SU(n).
+fn is_slot(groups: &[Group], slot: u32) -> bool
+    ensures { result ≡ is_slot groups.now slot }
+{
+    match groups.get(slot as usize) {
+        Some(group) => !group.is_abelian(),
+        None => false,
+    }
+}
+
+/// Whether each slot is the place of a group SU(n).
+fn are_all_slots(groups: &[Group], slots: &[u32]) -> bool
+    ensures { result ≡ list_all (is_slot groups.now) slots.now }
+{
+    slots.iter().all(|slot| is_slot(groups, *slot))
+}
+
+/// Whether there are 1 to 8 slots, each the place of a group SU(n).
+fn are_slots(groups: &[Group], slots: &[u32]) -> bool
+    ensures { result ≡ are_slots groups.now slots.now }
+{
+    is_between(1, 8, slots.len()) && are_all_slots(groups, slots)
+}
+
+/// The n of the group at a place: 0 where there is none.
+pub fn slot_size(groups: &[Group], slot: u32) -> u32
+    ensures { result ≡ slot_size groups.now slot }
+{
+    match groups.get(slot as usize) {
+        Some(group) => group.n,
+        None => 0,
+    }
+}
+
+/// Whether there is a value from 1 to n for each slot.
+fn are_values(groups: &[Group], slots: &[u32], values: &[u32]) -> bool
+    ensures { result ≡ are_values groups.now slots.now values.now }
+{
+    match slots {
+        [] => values.is_empty(),
+        [slot, slots @ ..] => match values {
+            [] => false,
+            [value, values @ ..] => {
+                is_between(1, slot_size(groups, *slot) as usize, *value as usize)
+                    && are_values(groups, slots, values)
+            }
+        },
+    }
+}
+
+/// Whether each entry has a value from 1 to n for each slot.
+fn are_all_entries(groups: &[Group], slots: &[u32], entries: &[Entry]) -> bool
+    ensures { result ≡ list_all (is_entry groups.now slots.now) entries.now }
+{
+    entries
+        .iter()
+        .all(|entry| are_values(groups, slots, entry.at.as_slice()))
+}
+
+/// Whether one of the entries stands at these values.
+fn is_any_at(entries: &[Entry], at: &[u32]) -> bool
+    ensures { result ≡ list_any (λ entry. bytes_eq at.now (entry_at entry)) entries.now }
+{
+    entries.iter().any(|entry| at == entry.at.as_slice())
+}
+
+/// Whether one of the entries stands at these values.
+#[tactic(auto, using(crate::proofs::ListLaws::list_any_map))]
+pub fn has_entry_at(entries: &[Entry], at: &[u32]) -> bool
+    ensures { result ≡ list_any (bytes_eq at.now) (map entry_at entries.now) }
+{
+    is_any_at(entries, at)
+}
+
+/// Whether no two entries stand at the same values.
+fn have_distinct_places(entries: &[Entry]) -> bool
+    ensures { result ≡ are_distinct (map entry_at entries.now) }
+{
+    match entries {
+        [] => true,
+        [entry, entries @ ..] => {
+            !has_entry_at(entries, entry.at.as_slice()) && have_distinct_places(entries)
+        }
+    }
+}
+
+/// Whether there are at most 512 entries, each with a value from 1 to n for each slot, and no two at the same values.
+fn are_entries(groups: &[Group], slots: &[u32], entries: &[Entry]) -> bool
+    ensures { result ≡ are_entries groups.now slots.now entries.now }
+{
+    if entries.len() > 512 {
+        return false;
+    }
+    if !are_all_entries(groups, slots, entries) {
+        return false;
+    }
+    have_distinct_places(entries)
+}
+
+/// Whether a table's slots and entries are as they must be.
+fn is_table(groups: &[Group], table: &Table) -> bool
+    ensures { result ≡ is_table groups.now table.now }
+{
+    if !are_slots(groups, table.slots.as_slice()) {
+        return false;
+    }
+    are_entries(groups, table.slots.as_slice(), table.entries.as_slice())
+}
+
+/// Whether each table is as it must be.
+fn are_all_tables(groups: &[Group], tables: &[Table]) -> bool
+    ensures { result ≡ list_all (is_table groups.now) tables.now }
+{
+    tables.iter().all(|table| is_table(groups, table))
+}
+
+/// Whether there are at most 16 tables, each of them as it must be.
+fn are_tables(groups: &[Group], tables: &[Table]) -> bool
+    ensures { result ≡ are_tables groups.now tables.now }
+{
+    if tables.len() > 16 {
+        return false;
+    }
+    are_all_tables(groups, tables)
+}
+
+/// Whether the groups and fields of a model meet their rules, and are few enough.
+fn has_valid_fields(model: &Model) -> bool
+    ensures { result ≡ has_valid_fields model.now }
 {
     let groups = model.groups.as_slice();
     if !are_groups(groups) {
@@ -184,6 +311,16 @@ fn has_valid_parts(model: &Model) -> bool
         return false;
     }
     are_scalars(groups, model.scalars.as_slice())
+}
+
+/// Whether the parts of a model meet their rules, and are few enough.
+fn has_valid_parts(model: &Model) -> bool
+    ensures { result ≡ has_valid_parts model.now }
+{
+    if !has_valid_fields(model) {
+        return false;
+    }
+    are_tables(model.groups.as_slice(), model.tables.as_slice())
 }
 
 /// Whether there are at most 512 fermion components and 256 scalar coordinates without the dummy.
@@ -198,13 +335,14 @@ fn has_few_components(model: &Model) -> bool
     coordinate_count(groups, model.scalars.as_slice()) <= 256
 }
 
-/// The names of groups, couplings and fields, in file order.
+/// The names of groups, couplings, fields and tables, in file order.
 fn names_of(alloc: Global, model: &Model) -> Result<NameList, AllocError>
     ensures { IfOk result (λ names. names ≡ names_of model.now) }
 {
     let mut names = group_names(alloc, model.groups.as_slice())?;
     push_field_names(&mut names, model.fermions.as_slice())?;
     push_field_names(&mut names, model.scalars.as_slice())?;
+    push_table_names(&mut names, model.tables.as_slice())?;
     Ok(names)
 }
 
@@ -226,6 +364,16 @@ fn push_field_names(names: &mut NameList, fields: &[Field]) -> Result<(), AllocE
 {
     for field in fields {
         names.push(field.name.copy())?;
+    }
+    Ok(())
+}
+
+/// Adds the names of tables.
+fn push_table_names(names: &mut NameList, tables: &[Table]) -> Result<(), AllocError>
+    ensures { IfOk result (λ _. names.new ≡ names.old ++ map table_name tables.now) }
+{
+    for table in tables {
+        names.push(table.name.copy())?;
     }
     Ok(())
 }
@@ -252,8 +400,9 @@ fn are_distinct(names: &[Name]) -> bool
 /// Whether a model is valid: at most 4 groups, each the U(1) or SU(n) with n from 2 to 6, and at most one U(1); at most
 /// 24 fermion fields with 1 to 6 generations, a representation for each group, which is the singlet for the U(1), and a
 /// charge only under a U(1); at most 12 such scalars, of which the real ones have no charge and are singlets or in the
-/// adjoint representation; at most 512 fermion components and 256 scalar coordinates without the dummy; and distinct
-/// names of groups, couplings and fields. Only want of memory is an error.
+/// adjoint representation; at most 512 fermion components and 256 scalar coordinates without the dummy; at most 16
+/// tables, each with 1 to 8 slots of groups SU(n) and at most 512 entries with a value from 1 to n for each slot, no two
+/// at the same values; and distinct names of groups, couplings, fields and tables. Only want of memory is an error.
 pub fn is_valid(alloc: Global, model: &Model) -> Result<bool, AllocError>
     ensures { IfOk result (λ valid. valid ≡ is_valid model.now) }
 {

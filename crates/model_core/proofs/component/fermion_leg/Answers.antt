@@ -3,8 +3,21 @@ use Rattle.std.specs.Prelude.{slice_get}
 use Rattle.std.specs.List.{flat_map}
 use Rattle.model_core.specs.Component.{components_of}
 use Rattle.model_core.specs.Leg.{leg_of}
-use Rattle.model_core.proofs.CountLaws.{image_at}
+use Rattle.model_core.proofs.CountLaws.{image_at, fermion_generations}
+use Rattle.model_core.proofs.ValidLaws.{valid_parts, parts_fermions}
 use Rattle.model_core.proofs.component.fermion_leg.Goals as goal
+
+pub field_count-count-requires-clause-generations : goal.field_count-count-requires-clause-generations
+field_count-count-requires-clause-generations c =
+    let model = c.args.model.now in
+    let items : c.as_slice-field-items.result.now ≡ model.fermions = c.as_slice-field-items.ensures in
+    fermion_generations model.groups model.fermions c.loop-field.field-index c.field-item.result c.field-item.result (parts_fermions model (valid_parts model c.requires.valid)) (omega (arith, ap length items, c.loop-field-test.true)) (c.field-item.is ∙ ap (λ fs. get_or fs c.loop-field.field-index c.field-item.result) items)
+
+pub leg_at-requires-clause-generations : goal.leg_at-requires-clause-generations
+leg_at-requires-clause-generations c =
+    let model = c.args.model.now in
+    let items : c.as_slice-field-items.result.now ≡ model.fermions = c.as_slice-field-items.ensures in
+    fermion_generations model.groups model.fermions c.loop-field.field-index c.field-item.result c.field-item.result (parts_fermions model (valid_parts model c.requires.valid)) (omega (arith, ap length items, c.loop-field-test.true)) (c.field-item.is ∙ ap (λ fs. get_or fs c.loop-field.field-index c.field-item.result) items)
 
 pub returns-then-rest-count : goal.returns-then-rest-count
 returns-then-rest-count c =
