@@ -3,7 +3,14 @@ pub mod Firsts
 pub mod Literals
 pub mod Mapped
 pub mod Members
+pub mod Places
+pub mod Prefixes
 pub mod Readings
+pub mod Rests
 pub mod ScalarPlaces
+pub mod SlotLaws
+pub mod Spellings
+pub mod Sums
 pub mod TableLaws
 pub mod ValidParts
+pub mod Verdicts

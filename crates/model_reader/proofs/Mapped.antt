@@ -1,12 +1,8 @@
--- Tests of a list and of its image.
+-- Places in a list and in its image.
 use Rattle.std.proofs.Common.{◌≡◌, ◌+◌, Bool, cond, List, [], ◌∷◌, map, refl, ap, ap₂, Some, None}
-use Rattle.std.specs.Prelude.{◌||◌, not, nat_lt, position}
-use Rattle.std.specs.List.{list_any, position_or_len}
+use Rattle.std.specs.Prelude.{not, nat_lt, position}
+use Rattle.std.specs.List.{position_or_len}
 use Rattle.std.proofs.lemmas.List.{length-map}
-
-pub list_any-map : {A B : Type 0} (xs : List A) (f : A → B) (test : B → Bool) → list_any test (map f xs) ≡ list_any (λ x. test (f x)) xs
-list_any-map [] f test = refl
-list_any-map (x ∷ xs) f test = ap (λ rest. test (f x) || rest) (list_any-map xs f test)
 
 position_or_len-map : {A B : Type 0} (xs : List A) (f : A → B) (test : B → Bool) → position_or_len test (map f xs) ≡ position_or_len (λ x. test (f x)) xs
 position_or_len-map [] f test = refl

@@ -1,16 +1,18 @@
 -- Lists of valid parts stay valid by a further valid part.
-use Rattle.std.proofs.Common.{◌≡◌, ℕ, Bool, true, false, cond, not, List, [], ◌∷◌, ◌++◌, refl, ap, ap₂, ◌∙◌, arith}
+use Rattle.std.proofs.Common.{◌≡◌, ℕ, Bool, true, false, cond, not, List, [], ◌∷◌, ◌++◌, map, refl, ap, ap₂, ◌∙◌, arith}
 use Rattle.std.specs.Prelude.{◌&&◌, ◌||◌, ◌==◌}
 use Rattle.std.specs.List.{list_all, list_any}
 use Rattle.std.specs.Str.{bytes_eq}
 use Rattle.std.proofs.lemmas.Slice.Eq.{bytes_eq-Decides}
+use Rattle.std.proofs.lemmas.List.{map-append}
 use Rattle.std.proofs.lemmas.List.Folds.{list_all-append, list_any-append}
 use Rattle.toml.specs.Data.{Members, get_member}
 use Rattle.model_core.proofs.ValidLaws.{both}
 use Rattle.su_reps.specs.declared.rep.Rep.{Rep}
 use Rattle.su_reps.specs.declared.rep.Rep.TheVariants.{Singlet, Fund, Conj, Adjoint, Sym2, Sym2Conj, Anti2, Anti2Conj}
 use Rattle.model_core.specs.declared.group.Group.{Group}
-use Rattle.model_core.specs.Valid.{is_abelian, has_one_abelian, is_rep, are_reps, are_distinct}
+use Rattle.model_core.specs.declared.table.Entry.{Entry}
+use Rattle.model_core.specs.Valid.{entry_at, is_abelian, has_one_abelian, is_rep, are_reps, are_distinct}
 use Rattle.model_core.specs.Document.{value_or, rep_of, rep_under, reps_of}
 
 both_and : (a b : Bool) → a ≡ true → b ≡ true → (a && (b && true)) ≡ true
@@ -41,6 +43,12 @@ distinct_push (first ∷ names) name distinct fresh =
     let new = neither (bytes_eq name first) (list_any (bytes_eq name) names) fresh in
     ap (λ b. not b && are_distinct (names ++ name ∷ [])) (list_any-append (bytes_eq first) names (name ∷ []))
     ∙ none_more (list_any (bytes_eq first) names) (bytes_eq first name) (are_distinct (names ++ name ∷ [])) apart.0 (turned name first new.0) (distinct_push names name apart.1 new.1)
+
+-- a new entry keeps the places of entries distinct
+pub entry_push : (entries : List Entry) (entry : Entry) → are_distinct (map entry_at entries) ≡ true → list_any (bytes_eq entry.at) (map entry_at entries) ≡ false
+    → are_distinct (map entry_at (entries ++ entry ∷ [])) ≡ true
+entry_push entries entry distinct fresh =
+    ap are_distinct (map-append entry_at entries (entry ∷ [])) ∙ distinct_push (map entry_at entries) entry.at distinct fresh
 
 no_other : (first some new rest : Bool) → not (first && some) ≡ true → (new && (first || some)) ≡ false → rest ≡ true → (not (first && (some || (new || false))) && rest) ≡ true
 no_other false some new rest one single third = third

@@ -7,7 +7,7 @@ use Rattle.model_core.specs.declared.fault.ReadFault.{ReadFault}
 use Rattle.model_core.specs.declared.fault.ReadKind.TheVariants.{NotToml}
 use Rattle.model_core.specs.declared.fault.Part.TheVariants as part
 use Rattle.model_core.specs.Fault.{fault}
-use Rattle.model_core.specs.Document.{document, group_of, fermion_of, scalar_of}
+use Rattle.model_core.specs.Document.{document, group_of, fermion_of, scalar_of, table_of}
 use Rattle.model_core.specs.Walk.{place_of, part_places}
 use Rattle.model_reader.specs.Tables.{table_views}
 use Rattle.model_reader.specs.declared.reader.FileValues.{FileValues}
@@ -26,26 +26,31 @@ pub record HasHead (members : Members) (values : FileValues) : Type 0 where
   pub profile : get_member (codes "profile") members ≡ Some (view values.profile.now)
   pub name : get_member (codes "name") members ≡ Some (view values.name.now)
 
--- the tables of groups, fermions and scalars
-abbrev pub part_lists : PartTables → List Members × (List Members × List Members)
-part_lists parts = (table_views parts.groups.items, (table_views parts.fermions.items, table_views parts.scalars.items))
+-- the tables of groups, fermions, scalars and tables
+abbrev pub PartLists : Type 0
+PartLists = List Members × (List Members × (List Members × List Members))
+
+abbrev pub part_lists : PartTables → PartLists
+part_lists parts = (table_views parts.groups.items, (table_views parts.fermions.items, (table_views parts.scalars.items, table_views parts.tables.items)))
 
 -- no part has more tables than it may have
 pub record ArePartsFew (parts : PartTables) : Type 0 where
   pub groups : length parts.groups.items ≤ 4
   pub fermions : length parts.fermions.items ≤ 24
   pub scalars : length parts.scalars.items ≤ 12
+  pub tables : length parts.tables.items ≤ 16
 
 -- the model that the tables of its parts name
-abbrev pub model_with : ℕ → List ℕ → List Members × (List Members × List Members) → Model
-model_with profile name (group_tables, (fermion_tables, scalar_tables)) = record {
+abbrev pub model_with : ℕ → List ℕ → PartLists → Model
+model_with profile name (group_tables, (fermion_tables, (scalar_tables, tensor_tables))) = record {
   profile = profile;
   name = name;
   groups = map group_of group_tables;
   fermions = map (fermion_of (map group_of group_tables)) fermion_tables;
   scalars = map (scalar_of (map group_of group_tables)) scalar_tables;
+  tables = map (table_of (map group_of group_tables)) tensor_tables;
 }
 
 -- the bad places within these tables
-abbrev pub places_of : List Members × (List Members × List Members) → List ReadFault
-places_of (group_tables, (fermion_tables, scalar_tables)) = part_places group_tables fermion_tables scalar_tables
+abbrev pub places_of : PartLists → List ReadFault
+places_of (group_tables, (fermion_tables, (scalar_tables, tensor_tables))) = part_places group_tables fermion_tables scalar_tables tensor_tables

@@ -100,7 +100,7 @@ fn check_kind(
 }
 
 /// Whole files.
-const FILES: [(&str, &str); 55] = [
+const FILES: [(&str, &str); 56] = [
     // No document.
     ("profile", "NotToml file 0 0 0"),
     ("profile=1\nprofile=1", "NotToml file 0 0 0"),
@@ -187,18 +187,17 @@ const FILES: [(&str, &str); 55] = [
         "profile=1\nname='m'\nscalar=1\nterm=[]",
         "WrongType file 0 5 0",
     ),
-    // Tables and terms are not built.
-    ("profile=1\nname='m'\ntable=[]", "Unbuilt file 0 6 0"),
-    ("profile=1\nname='m'\ntable=[{}]", "Unbuilt file 0 6 0"),
+    ("profile=1\nname='m'\ntable=[]", "fine"),
+    // Terms are not built.
     ("profile=1\nname='m'\nterm=[]", "Unbuilt file 0 7 0"),
     ("profile=1\nname='m'\n[[term]]\nx=1", "Unbuilt file 0 7 0"),
     (
         "profile=1\nname='m'\nterm=[]\ntable=[]",
-        "Unbuilt file 0 6 0",
+        "Unbuilt file 0 7 0",
     ),
     (
         "profile=1\nname='m'\nterm=1\ntable=[]",
-        "Unbuilt file 0 6 0",
+        "WrongType file 0 7 0",
     ),
     (
         "profile=1\nname='m'\nterm=[]\ntable=1",
@@ -219,8 +218,8 @@ const FILES: [(&str, &str); 55] = [
         "WrongType file 0 5 0",
     ),
     (
-        "profile=1\nname='m'\ngroup=[{x=1}]\ntable=[]",
-        "Unbuilt file 0 6 0",
+        "profile=1\nname='m'\ngroup=[{x=1}]\ntable=1",
+        "WrongType file 0 6 0",
     ),
     (
         "profile=1\nname='m'\ngroup=[{x=1}]\nfermion=[{}]\nterm=[]",
@@ -230,7 +229,7 @@ const FILES: [(&str, &str); 55] = [
         "profile=1\nname='m'\ngroup=[{x=1}]\nterm=1",
         "WrongType file 0 7 0",
     ),
-    // The parts: groups, fermions, scalars.
+    // The parts: groups, fermions, scalars, tables.
     (
         "profile=1\nname='m'\ngroup=[{}]\nfermion=[{x=1}]",
         "MissingKey group 1 1 0",
@@ -247,6 +246,11 @@ const FILES: [(&str, &str); 55] = [
         "profile=1\nname='m'\nscalar=[{}]",
         "MissingKey scalar 1 1 0",
     ),
+    (
+        "profile=1\nname='m'\ntable=[{x=1}]\nscalar=[{}]",
+        "MissingKey scalar 1 1 0",
+    ),
+    ("profile=1\nname='m'\ntable=[{}]", "MissingKey table 1 1 0"),
 ];
 
 /// The keys of the file that are arrays of tables, and the fault of a value that is none.
@@ -274,7 +278,7 @@ const NO_ARRAYS: [&str; 11] = [
 ];
 
 /// Places of names: what stands before and behind, and the place.
-const NAME_PLACES: [(&str, &str, &str); 5] = [
+const NAME_PLACES: [(&str, &str, &str); 6] = [
     ("profile=1\nname=", "\ngroup=[]", "file 0 2 0"),
     (
         "profile=1\nname='m'\ngroup=[{n=3,coupling='g',name=",
@@ -295,6 +299,11 @@ const NAME_PLACES: [(&str, &str, &str); 5] = [
         "profile=1\nname='m'\nscalar=[{name=",
         ",real=true}]",
         "scalar 1 1 0",
+    ),
+    (
+        "profile=1\nname='m'\ngroup=[{name='c',n=3,coupling='g'}]\ntable=[{slots=['c'],entries=[],name=",
+        "}]",
+        "table 1 1 0",
     ),
 ];
 
@@ -371,7 +380,8 @@ const TEXTS: [(&str, &str); 17] = [
     ("'\\alpha_{s}'", ""),
 ];
 
-/// Values of `charge`, and the kinds of fault in a file without a U(1) and in one with it.
+/// Values of `charge`, and the kinds of fault in a file without a U(1) and in one with it. The latter are those of an
+/// entry's `value` too.
 const CHARGES: [(&str, &str, &str); 66] = [
     // The form of the value, then of the literal.
     ("1.5", "WrongType", "WrongType"),
@@ -601,6 +611,22 @@ fn charges_with_abelian(rt: HostRuntime) -> Result<(), AllocError> {
             &[before, value, "}]"],
             kind,
             "scalar 1 3 0",
+        )?;
+    }
+    Ok(())
+}
+
+#[test]
+fn values_of_entries(rt: HostRuntime) -> Result<(), AllocError> {
+    for (value, _, kind) in CHARGES {
+        let before =
+            "profile=1\nname='m'\ngroup=[{name='c',n=2,coupling='g'}]\ntable=[{name='t',slots=['c'],entries=[{at=[2],value=";
+        check_kind(
+            &rt,
+            rt.alloc(),
+            &[before, value, "}]}]"],
+            kind,
+            "table 1 3 0",
         )?;
     }
     Ok(())

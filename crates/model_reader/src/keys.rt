@@ -25,7 +25,7 @@ fn is_among(key: &str, words: &[&str]) -> bool
 }
 
 /// Whether each key of the table is one of these words.
-fn keys_are_among(table: &Table, words: &[&str]) -> bool
+pub fn keys_are_among(table: &Table, words: &[&str]) -> bool
     ensures { result ≡ keys_are_among (texts words.now) (table_view table.now) }
 {
     for (key, _) in table {

@@ -1,6 +1,7 @@
 //! Reads a model file.
 #![tactic(auto)]
 
+mod entries;
 mod error;
 mod fields;
 mod groups;
@@ -9,12 +10,17 @@ mod literal;
 mod names;
 mod reader;
 mod reps;
+mod slots;
 mod tables;
+mod tensors;
+mod term_text;
+mod term_tokens;
 mod values;
 
 pub use error::ReadError;
 pub use model_core::{Part, ReadFault, ReadKind};
 pub use reader::read_model;
+pub use term_text::{ParsedSum, a_text_is_one_sum, parse_sum};
 
 #[cfg(test)]
 mod fault_tests;
@@ -28,3 +34,6 @@ mod model_tests;
 mod names_tests;
 #[cfg(test)]
 mod part_tests;
+#[cfg(test)]
+mod table_tests;
+mod term_text_tests;

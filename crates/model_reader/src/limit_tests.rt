@@ -107,13 +107,13 @@ fn largest_sizes(rt: HostRuntime) -> Result<(), AllocError> {
     Ok(())
 }
 
-// Tables and terms above their limits are not built, as fewer of them are.
+// Terms above their limit are not built, as fewer of them are. Tables are counted before the file's last key.
 #[test]
 fn tables_and_terms(rt: HostRuntime) -> Result<(), AllocError> {
     let alloc = rt.alloc();
     let rows: [(&str, u32, &[u8]); 4] = [
-        ("table", 16, b"Unbuilt file 0 6 0"),
-        ("table", 17, b"Unbuilt file 0 6 0"),
+        ("table", 16, b"MissingKey table 1 2 0"),
+        ("table", 17, b"OverLimit file 0 6 17"),
         ("term", 64, b"Unbuilt file 0 7 0"),
         ("term", 65, b"Unbuilt file 0 7 0"),
     ];

@@ -20,7 +20,7 @@ fn are_all_digits(text: &[u8]) -> bool
 }
 
 /// The number where it is from `low` to `high`.
-fn within(low: u32, high: u32, number: u32) -> Option<u32>
+pub fn within(low: u32, high: u32, number: u32) -> Option<u32>
     ensures value { result ≡ within low high number }
     ensures bounds { IfSome result (λ n. (low ≤ n) × (n ≤ high)) }
 {

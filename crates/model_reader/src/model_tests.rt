@@ -1,7 +1,7 @@
 //! Well-formed files, and the models that they stand for.
 use crate::{ReadError, read_model};
 use frac128::{ByteList, Frac};
-use model_core::{Field, Group, Model};
+use model_core::{Entry, Field, Group, Model, Table};
 use std::alloc::{AllocError, Global};
 use su_reps::Rep;
 
@@ -24,9 +24,9 @@ fn tell_number(alloc: Global, line: &mut ByteList, number: u32) -> Result<(), Al
 }
 
 /// The numerator and the denominator, also where it is 1.
-fn tell_charge(alloc: Global, line: &mut ByteList, charge: Frac) -> Result<(), AllocError> {
-    let num = charge.num();
-    let den = charge.den();
+fn tell_fraction(alloc: Global, line: &mut ByteList, fraction: Frac) -> Result<(), AllocError> {
+    let num = fraction.num();
+    let den = fraction.den();
     let text = format!(in alloc; " {num}/{den}")?;
     line.extend(text.as_bytes())
 }
@@ -45,12 +45,36 @@ fn tell_field(alloc: Global, line: &mut ByteList, field: &Field) -> Result<(), A
     line.extend(b"; ")?;
     line.extend(field.name.as_bytes())?;
     tell_number(alloc, line, field.generations)?;
-    tell_charge(alloc, line, field.charge)?;
+    tell_fraction(alloc, line, field.charge)?;
     for rep in field.reps.as_slice() {
         line.extend(rep_word(*rep).as_bytes())?;
     }
     if field.real {
         line.extend(b" real")?;
+    }
+    Ok(())
+}
+
+fn tell_numbers(alloc: Global, line: &mut ByteList, numbers: &[u32]) -> Result<(), AllocError> {
+    for number in numbers {
+        tell_number(alloc, line, *number)?;
+    }
+    Ok(())
+}
+
+fn tell_entry(alloc: Global, line: &mut ByteList, entry: &Entry) -> Result<(), AllocError> {
+    line.extend(b" at")?;
+    tell_numbers(alloc, line, entry.at.as_slice())?;
+    tell_fraction(alloc, line, entry.value)
+}
+
+fn tell_table(alloc: Global, line: &mut ByteList, table: &Table) -> Result<(), AllocError> {
+    line.extend(b"; ")?;
+    line.extend(table.name.as_bytes())?;
+    line.extend(b" slots")?;
+    tell_numbers(alloc, line, table.slots.as_slice())?;
+    for entry in table.entries.as_slice() {
+        tell_entry(alloc, line, entry)?;
     }
     Ok(())
 }
@@ -66,6 +90,9 @@ fn tell_model(alloc: Global, line: &mut ByteList, model: &Model) -> Result<(), A
     for field in model.scalars.as_slice() {
         tell_field(alloc, line, field)?;
         line.extend(b" scalar")?;
+    }
+    for table in model.tables.as_slice() {
+        tell_table(alloc, line, table)?;
     }
     Ok(())
 }
@@ -188,6 +215,52 @@ const MODELS: [(&str, &str); 25] = [
         "m; w 4 a a; x 4 b b; y 4 c c; z 4 d d; q 2 0/1 fund fund fund conj; H 2 0/1 singlet fund fund conj scalar",
     ),
 ];
+
+/// Whole files with tables, and the parts of their models: for each table its name, the place of each slot's group, and
+/// for each entry its numbers and its fraction.
+const TABLES: [(&str, &str); 8] = [
+    ("profile=1\nname='m'\ntable=[]", "m"),
+    // The places of groups are counted from 0, the U(1) included.
+    (
+        "profile=1\nname='m'\ngroup=[{name='c',n=2,coupling='g'}]\ntable=[{name='t',slots=['c'],entries=[]}]",
+        "m; c 2 g g; t slots 0",
+    ),
+    (
+        "profile=1\nname='m'\ngroup=[{name='z',n=2,coupling='g'},{name='u',n=1,coupling='h'},{name='y',n=3,coupling='i'},{name='w',n=6,coupling='j'}]\ntable=[{name='t',slots=['w','y','z','z','w'],entries=[{at=[6,3,2,1,1],value='-3/6'}]}]",
+        "m; z 2 g g; u 1 h h; y 3 i i; w 6 j j; t slots 3 2 0 0 3 at 6 3 2 1 1 -1/2",
+    ),
+    // Entries keep their order, and a 0 that is written stays.
+    (
+        "profile=1\nname='m'\ngroup=[{name='b',n=2,coupling='g'}]\ntable=[{name='e2',slots=['b','b'],entries=[{at=[2,1],value=-1},{value='01/1',at=[1,2]},{at=[1,1],value=0}]}]",
+        "m; b 2 g g; e2 slots 0 0 at 2 1 -1/1 at 1 2 1/1 at 1 1 0/1",
+    ),
+    (
+        "profile=1\nname='m'\ngroup=[{name='b',n=2,coupling='g'}]\n[[table]]\nname='t'\nslots=['b']\n[[table.entries]]\nat=[0x1]\nvalue='1000000000/1000000'\n[[table.entries]]\nat=[+2]\nvalue=-1_000_000_000\n[[table]]\nentries=[]\nslots=['b','b','b','b','b','b','b','b']\nname='s'\n",
+        "m; b 2 g g; t slots 0 at 1 1000/1 at 2 -1000000000/1; s slots 0 0 0 0 0 0 0 0",
+    ),
+    // A table may have the file's name, and its entries come after all fields.
+    (
+        "profile=1\nname='t'\ntable=[{name='t',slots=['c'],entries=[{at=[3],value='1/3'}]}]\nscalar=[{name='T'}]\ngroup=[{name='c',n=3,coupling='g'}]",
+        "t; c 3 g g; T 1 0/1 singlet scalar; t slots 0 at 3 1/3",
+    ),
+    (
+        "profile=1\nname='m'\ngroup=[{name='c',n=3,coupling='g'}]\ntable=[{name='T',slots=['c','c'],entries=[{at=[1,1],value='1/2'}]},{name='t',slots=['c','c'],entries=[{at=[1,1],value='1/2'},{at=[3,3],value='2/4'}]}]",
+        "m; c 3 g g; T slots 0 0 at 1 1 1/2; t slots 0 0 at 1 1 1/2 at 3 3 1/2",
+    ),
+    (
+        "profile=1\nname='m'\ngroup=[{name='c',n=3,coupling='g'}]\ntable=[{name='t',slots=['c','c'],entries=[{at=[1,3],value=1},{at=[1,4],value=1}]}]",
+        "malformed",
+    ),
+];
+
+#[test]
+fn models_with_tables(rt: HostRuntime) -> Result<(), AllocError> {
+    for (file, model) in TABLES {
+        let line = model_of(rt.alloc(), file.as_bytes())?;
+        assert_eq!(rt; line.as_slice(), model.as_bytes(), "{file}");
+    }
+    Ok(())
+}
 
 #[test]
 fn models(rt: HostRuntime) -> Result<(), AllocError> {

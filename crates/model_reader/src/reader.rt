@@ -5,7 +5,7 @@ ghost use Rattle.toml.specs.Data.{get_member};
 ghost use Rattle.toml.specs.View.{view, table_view};
 ghost use Rattle.model_core.specs.Component.{components_of};
 ghost use Rattle.model_core.specs.Scalar.{coordinates_of};
-ghost use Rattle.model_core.specs.Valid.{IsValid, are_groups, are_fields, are_scalars, are_distinct, field_name};
+ghost use Rattle.model_core.specs.Valid.{IsValid, are_groups, are_fields, are_scalars, are_tables, are_distinct, field_name};
 ghost use Rattle.model_core.specs.Document.{number_of, text_of, tables_at, group_of, fermion_of, scalar_of, model_of};
 ghost use Rattle.model_core.specs.Walk.{place_of, key_place, key_places, value_places, file_keys, part_keys, integer_places, name_places, over_limit, fermions_places, scalars_places, part_places, bad_places};
 ghost use Rattle.model_core.specs.Reading.{reading};
@@ -20,6 +20,7 @@ use crate::groups::groups_of;
 use crate::keys::{only_keys, required};
 use crate::names::Names;
 use crate::tables::{tables_at, unbuilt_tables};
+use crate::tensors::tensors_of;
 use crate::values::{name, profile};
 use model_core::{
     FaultPlace, FieldList, GroupList, Model, Name, Part, ReadKind, component_count,
@@ -73,15 +74,16 @@ fn file_values<'a>(place: FaultPlace, file: &'a Table) -> Result<FileValues<'a>,
     Ok(FileValues { profile, name })
 }
 
-/// The tables of a file's groups, fermions and scalars.
+/// The tables of a file's groups, fermions, scalars and tables.
 #[derive(Drop)]
 struct PartTables<'a> {
     groups: Vec<&'a Table>,
     fermions: Vec<&'a Table>,
     scalars: Vec<&'a Table>,
+    tables: Vec<&'a Table>,
 }
 
-/// The tables of a file's parts. Those of tables and terms aren't built yet.
+/// The tables of a file's parts. Those of terms aren't built yet.
 #[tactic(auto, using(crate::proofs::Firsts::first_before))]
 fn part_tables<'a>(
     alloc: Global,
@@ -89,18 +91,19 @@ fn part_tables<'a>(
     file: &'a Table,
 ) -> Result<PartTables<'a>, ReadError>
     ensures walked { Walked part_lists (value_places (key_place place 3) part_keys (table_view file.now))
-        (tables_at (codes "group") (table_view file.now), (tables_at (codes "fermion") (table_view file.now), tables_at (codes "scalar") (table_view file.now))) result }
+        (tables_at (codes "group") (table_view file.now), (tables_at (codes "fermion") (table_view file.now), (tables_at (codes "scalar") (table_view file.now), tables_at (codes "table") (table_view file.now)))) result }
     ensures few { IfOk result (λ parts. ArePartsFew parts) }
 {
     let groups = tables_at(alloc, place.key(3), 4, file, "group")?;
     let fermions = tables_at(alloc, place.key(4), 24, file, "fermion")?;
     let scalars = tables_at(alloc, place.key(5), 12, file, "scalar")?;
-    unbuilt_tables(place.key(6), file, "table")?;
+    let tables = tables_at(alloc, place.key(6), 16, file, "table")?;
     unbuilt_tables(place.key(7), file, "term")?;
     Ok(PartTables {
         groups,
         fermions,
         scalars,
+        tables,
     })
 }
 
@@ -177,12 +180,14 @@ fn model_with(
     let groups = groups_of(alloc, &mut names, parts.groups.as_slice())?;
     let fermions = limited_fermions(alloc, &groups, &mut names, parts.fermions.as_slice())?;
     let scalars = limited_scalars(alloc, &groups, &mut names, parts.scalars.as_slice())?;
+    let tables = tensors_of(alloc, &groups, &mut names, parts.tables.as_slice())?;
     Ok(Model {
         profile,
         name,
         groups,
         fermions,
         scalars,
+        tables,
     })
 }
 
@@ -203,7 +208,7 @@ fn model_of(alloc: Global, file: &Table) -> Result<Model, ReadError>
 /// The model that the bytes of a file stand for, which is valid.
 ///
 /// The fault is `NotToml` at the file exactly where the bytes are no TOML document, and else the document's first bad place
-/// in the order of the walk: the file's own table, then groups, fermions and scalars in file order.
+/// in the order of the walk: the file's own table, then groups, fermions, scalars and tables in file order.
 #[tactic(auto, unfolding(model_core::specs::Reading::reading), using(crate::proofs::Readings::reading_of_walked))]
 pub fn read_model(alloc: Global, bytes: &[u8]) -> Result<Model, ReadError>
     ensures value { Gives (λ model. model) result (reading bytes.now) }

@@ -46,7 +46,7 @@ fn are_texts(table: &Table) -> bool
 }
 
 /// Whether a group SU(n) has this name.
-fn names_special(groups: &[Group], name: &[u8]) -> bool
+pub fn names_special(groups: &[Group], name: &[u8]) -> bool
     ensures { result ≡ names_special groups.now name.now }
 {
     groups.iter().any(|group| !group.is_abelian() && name == group.name.as_bytes())

@@ -155,7 +155,7 @@ pub fn latex_or(place: FaultPlace, table: &Table, coupling: &Name) -> Result<Lat
 }
 
 /// The fraction that a value is.
-fn fraction(place: FaultPlace, value: &Value) -> Result<Frac, ReadError>
+pub fn fraction(place: FaultPlace, value: &Value) -> Result<Frac, ReadError>
     ensures { Walked (λ x. x) (fraction_places place (view value.now)) (fraction_of (view value.now)) result }
 {
     let found = match value {
