@@ -1,7 +1,7 @@
 //! One-loop gauge coefficients: published values, and charges for which a sum is refused.
 use crate::gauge::gauge_one;
 use frac128::{Frac, Overflow};
-use model_core::{Field, FieldList, Group, GroupList, Model, Name, RepList, is_valid};
+use model_core::{Field, FieldList, Group, GroupList, Model, Name, RepList, TableList, is_valid};
 use std::alloc::Global;
 use std::process::Abort;
 use std::test::Fail;
@@ -55,6 +55,7 @@ fn empty_model(rt: &impl Abort, alloc: Global) -> Model {
         groups: GroupList::new(alloc),
         fermions: FieldList::new(alloc),
         scalars: FieldList::new(alloc),
+        tables: TableList::new(alloc),
     }
 }
 
