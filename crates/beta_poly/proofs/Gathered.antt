@@ -105,6 +105,11 @@ module _ (K : Keys) (R : Semiring) (Z : ZeroTest R) where
   keys_run P e (f ∷ fs) p h =
       keys_at P (K.cmp e.0 f.0) e (run (e.0, e.1 ⊕ f.1) fs) (run f fs) p (keys_run P (e.0, e.1 ⊕ f.1) fs p h.1) (keys_run P f fs h.0 h.1)
 
+  pub keys_gathered : (P : K.carrier → Type 0) (es : Formal K R) → AllKeys K C P es → AllKeys K C P (gathered es)
+  unfolding gathered
+  keys_gathered P [] h = tt
+  keys_gathered P (e ∷ es) h = keys_run P e es h.0 h.1
+
   canonical_at : (o : Ordering) (e f : K.carrier × C) (same next : Formal K R) → K.cmp e.0 f.0 ≡ o → is_lt (K.cmp f.0 e.0) ≡ false → (K.cmp e.0 f.0 ≡ Less → Above K C e.0 next) → IsCanonical K R Z same → IsCanonical K R Z next → IsCanonical K R Z (run_at o e same next)
   unfolding run_at
   canonical_at Less e f same next o n a hs hn = canonical_strip_at K R Z (Z.is_zero e.1) e next refl (a o) hn

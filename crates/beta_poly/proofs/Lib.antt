@@ -1,11 +1,11 @@
-mod Steps
+pub mod Steps
 mod Views
 mod Refused
 mod Refusing
-mod Gathered
+pub mod Gathered
 mod Distinct
 mod Rows
-mod Lookup
+pub mod Lookup
 pub mod ExponentLaws
 mod PolynomialLaws
 mod OrderLaws

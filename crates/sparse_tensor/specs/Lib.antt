@@ -1,0 +1,6 @@
+pub mod Tensor
+pub mod Operations
+pub mod Collected
+pub mod Constants
+pub mod Refusals
+pub mod Laws
