@@ -15,7 +15,8 @@ use Rattle.model_core.specs.declared.group.Group.{Group}
 use Rattle.model_core.specs.declared.field.Field.{Field}
 use Rattle.model_core.specs.Component.{slot_sizes, tuples, Component, copies_of}
 use Rattle.model_core.specs.Place.{tuple_at}
-use Rattle.model_core.specs.Valid.{is_between, is_group, is_field, are_fields}
+use Rattle.model_core.specs.Groups.{is_between}
+use Rattle.model_core.specs.Valid.{is_group, is_field, are_fields}
 use Rattle.exact_algebra.specs.Blocks.{length-blocks, block_at, slice_get-append_left, slice_get-append_right}
 use Rattle.model_core.proofs.TupleLaws.{slots_few, length-tuples, by_parts, range_at, tuple_at_place}
 use Rattle.model_core.proofs.ValidLaws.{both, between, first_passes, field_generations}
@@ -99,7 +100,7 @@ slot_step sizes i rest count small within counted below =
 -- ---- the component at a place
 
 -- the record of a component of a field
-abbrev component_of : Bool → Field → ℕ → List ℕ → Component
+abbrev pub component_of : Bool → Field → ℕ → List ℕ → Component
 component_of conj field generation values = record { field = field; conj = conj; generation = generation; values = values }
 
 pub component_at : (conj : Bool) (groups : List Group) (field : Field) (place m : ℕ) → m ≡ length (tuples (slot_sizes groups field.reps)) → place < length (copies_of conj groups field)

@@ -22,7 +22,8 @@ use Rattle.model_core.specs.GaugeBeta.{rep_at, charge_of, casimir_at, group_casi
 use Rattle.model_core.specs.Multiplet.{dimensions, field_size, multiplicity, fermion_copies, scalar_copies, doubled_index_sum, twelfths, charge_square_sum, abelian_sixths}
 use Rattle.std.proofs.lemmas.List.Sums.{sum_by-cons}
 use Rattle.std.proofs.lemmas.Option.{slice_get_within}
-use Rattle.model_core.specs.Valid.{is_abelian, is_group, is_field, IsValid}
+use Rattle.model_core.specs.Groups.{is_abelian}
+use Rattle.model_core.specs.Valid.{is_group, is_field, IsValid}
 use Rattle.model_core.specs.Component.{Component, trace_over, fermion_components}
 use Rattle.model_core.specs.Scalar.{scalar_components}
 use Rattle.model_core.proofs.ValidLaws.{first_passes, field_reps, length-reps, valid_parts, parts_groups, parts_fields, parts_scalar_fields, groups_pass, all_special}

@@ -13,7 +13,8 @@ use Rattle.model_core.specs.declared.group.Group.{Group}
 use Rattle.model_core.specs.Component.{slot_sizes, tuples}
 use Rattle.model_core.specs.Place.{tuple_at, are_pairs}
 use Rattle.model_core.specs.Scalar.{swapped_pairs}
-use Rattle.model_core.specs.Valid.{is_real_rep, is_between}
+use Rattle.model_core.specs.Groups.{is_between}
+use Rattle.model_core.specs.Valid.{is_real_rep}
 use Rattle.model_core.proofs.ValidLaws.{both, first_passes, between}
 use Rattle.model_core.proofs.TupleLaws.{length-tuples, product_bound, twelve_fit}
 

@@ -10,18 +10,18 @@ use Rattle.std.specs.List.{flat_map}
 use Rattle.std.proofs.lemmas.List.{length-map}
 use Rattle.model_core.specs.declared.model.Model.{Model}
 use Rattle.model_core.specs.Scalar.{coordinates_of, scalar_components, scalar_coordinates, swapped_pairs, partner_component, partner, IsPartner}
-use Rattle.model_core.specs.Scalar.Coordinate.{Scalar, Dummy}
+use Rattle.model_core.specs.Scalar.Coordinate.{Of, Dummy}
 use Rattle.model_core.proofs.CountLaws.{component_at, length-copies_of, piece_at}
 use Rattle.model_core.proofs.PairLaws.{quotient, remainder, less_pair}
 use Rattle.model_core.proofs.ScalarLaws.{real_coordinates, complex_coordinates, conjugate_within, dummy_at}
 
 -- ---- the partner of a component
 
-real_partner_of : (c : Component) → c.field.real ≡ true → partner_component c ≡ record { field = c.field; conj = c.conj; generation = c.generation; values = swapped_pairs c.values }
+pub real_partner_of : (c : Component) → c.field.real ≡ true → partner_component c ≡ record { field = c.field; conj = c.conj; generation = c.generation; values = swapped_pairs c.values }
 real_partner_of c e =
     ap (λ b. cond b (record { field = c.field; conj = c.conj; generation = c.generation; values = swapped_pairs c.values }) (record { field = c.field; conj = not c.conj; generation = c.generation; values = c.values })) e
 
-complex_partner_of : (c : Component) → c.field.real ≡ false → partner_component c ≡ record { field = c.field; conj = not c.conj; generation = c.generation; values = c.values }
+pub complex_partner_of : (c : Component) → c.field.real ≡ false → partner_component c ≡ record { field = c.field; conj = not c.conj; generation = c.generation; values = c.values }
 complex_partner_of c e =
     ap (λ b. cond b (record { field = c.field; conj = c.conj; generation = c.generation; values = swapped_pairs c.values }) (record { field = c.field; conj = not c.conj; generation = c.generation; values = c.values })) e
 
@@ -99,13 +99,13 @@ pub partner_at : (model : Model) (i place before rest other : ℕ) (d : Field) �
 partner_at model i place before rest other d within counted is pair =
     let f = coordinates_of model.groups in
     let at = λ (j : ℕ) (c : Component) (h : slice_get (f (get_or model.scalars i d)) j ≡ Some c).
-    slice_get-append_left (map Scalar (scalar_components model)) (Dummy ∷ []) (before + j) (Scalar c)
-    (slice_get-map_some Scalar (scalar_components model) (before + j) c (ap (λ k. slice_get (scalar_components model) (k + j)) counted ∙ piece_at f model.scalars i j d c within h)) in
+    slice_get-append_left (map Of (scalar_components model)) (Dummy ∷ []) (before + j) (Of c)
+    (slice_get-map_some Of (scalar_components model) (before + j) c (ap (λ k. slice_get (scalar_components model) (k + j)) counted ∙ piece_at f model.scalars i j d c within h)) in
     at other (partner_component pair.component) pair.second
     ∙ sym (ap (option_map partner) (ap (slice_get (scalar_coordinates model)) is ∙ at rest pair.component pair.first))
 
 -- the dummy is its own partner
 pub dummy_partner : (model : Model) (place : ℕ) → place ≡ length (scalar_components model) → slice_get (scalar_coordinates model) place ≡ option_map partner (slice_get (scalar_coordinates model) place)
 dummy_partner model place is =
-    let found : slice_get (scalar_coordinates model) place ≡ Some Dummy = dummy_at (map Scalar (scalar_components model)) place Dummy (is ∙ sym (length-map (scalar_components model) Scalar)) in
+    let found : slice_get (scalar_coordinates model) place ≡ Some Dummy = dummy_at (map Of (scalar_components model)) place Dummy (is ∙ sym (length-map (scalar_components model) Of)) in
     found ∙ sym (ap (option_map partner) found)

@@ -11,7 +11,7 @@ use Rattle.model_core.specs.Component.{slot_sizes, tuples}
 use Rattle.model_core.specs.Place.{tuple_at}
 use Rattle.std.proofs.Math.Nat.{div-lt_iff_lt-mul}
 use native.Mathlib.Nat.{mul_comm, mul-le-mul, pow-succ', pow-le-pow_right}
-use Rattle.model_core.specs.Valid.{is_between}
+use Rattle.model_core.specs.Groups.{is_between}
 use Rattle.exact_algebra.specs.Blocks.{length-blocks, block_at}
 use Rattle.exact_algebra.specs.Slices.{tail, cons_tail}
 use Rattle.model_core.proofs.ValidLaws.{between, first_passes}

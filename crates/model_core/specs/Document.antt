@@ -1,5 +1,6 @@
--- The document that the bytes of a file are, and the model that it names. Each value stands for what its type says; what
--- isn't there, or isn't in its form, counts as left out. Only a document without a bad place is read (see Walk).
+-- The document that the bytes of a file are, and the parts of the model that it names but for its terms (see TermMeaning).
+-- Each value stands for what its type says; what isn't there, or isn't in its form, counts as left out. Only a document
+-- without a bad place is read (see Walk).
 use Rattle.std.specs.Prelude.{ℕ, Bool, false, ◌&&◌, if◌then◌else◌, unsigned_abs, List, [], ◌∷◌, map, position, Option, Some, None, option_and_then, unwrap_or, codes}
 use Rattle.std.specs.Str.{is_utf8, bytes_eq}
 use Rattle.toml.specs.Data.{Data, string, integer, boolean, array, table, Items, no_items, item, Members, no_members, get_member, as_str}
@@ -13,7 +14,7 @@ use Rattle.model_core.specs.declared.table.Entry.{Entry}
 use Rattle.model_core.specs.declared.table.Table.{Table}
 use Rattle.model_core.specs.declared.model.Model.{Model}
 use Rattle.model_core.specs.Literal.{fraction_in}
-use Rattle.model_core.specs.Valid.{is_abelian, is_special}
+use Rattle.model_core.specs.Groups.{is_abelian, is_special}
 
 -- the document that the bytes are: a text in UTF-8 that the grammar of TOML takes
 unfoldable pub document : List ℕ → Option Members
@@ -155,12 +156,14 @@ tables_at key members = value_or tables_of [] (get_member key members)
 abbrev pub groups_of : Members → List Group
 groups_of members = map group_of (tables_at (codes "group") members)
 
-unfoldable pub model_of : Members → Model
-model_of members = record {
+-- the model without its terms
+unfoldable pub parts_of : Members → Model
+parts_of members = record {
   profile = value_or number_of 0 (get_member (codes "profile") members);
   name = value_or text_of [] (get_member (codes "name") members);
   groups = groups_of members;
   fermions = map (fermion_of (groups_of members)) (tables_at (codes "fermion") members);
   scalars = map (scalar_of (groups_of members)) (tables_at (codes "scalar") members);
   tables = map (table_of (groups_of members)) (tables_at (codes "table") members);
+  terms = [];
 }

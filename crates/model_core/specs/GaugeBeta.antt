@@ -10,7 +10,7 @@ use Rattle.model_core.specs.declared.field.Field.{Field}
 use Rattle.model_core.specs.declared.model.Model.{Model}
 use Rattle.model_core.specs.Component.{Component, fermion_components, trace_over}
 use Rattle.model_core.specs.Scalar.{scalar_components}
-use Rattle.model_core.specs.Valid.{is_abelian}
+use Rattle.model_core.specs.Groups.{is_abelian}
 
 -- the representation under the group at a place
 abbrev pub rep_at : Field → ℕ → Rep

@@ -13,3 +13,15 @@ pub mod Document
 pub mod Walk
 pub mod Reading
 pub mod TermText
+pub mod TermGrammar
+pub mod Groups
+pub mod Factors
+pub mod Flavour
+pub mod Content
+pub mod TermRules
+pub mod TermMeaning
+pub mod TermWalk
+pub mod MonomialValue
+pub mod TermTensor
+pub mod Directions
+pub mod ComponentLists

@@ -5,7 +5,7 @@ use Rattle.std.specs.List.{list_all}
 use Rattle.std.specs.Str.Parse.{digits_value, starts_with_minus}
 use Rattle.toml.specs.Data.{Data, string, integer}
 use Rattle.frac128.specs.Rational.{ℚ, whole, neg_ℚ, ◌/ℚ◌}
-use Rattle.model_core.specs.Valid.{is_between}
+use Rattle.model_core.specs.Groups.{is_between}
 
 -- one decimal digit or more
 abbrev pub are_digits : List ℕ → Bool

@@ -6,9 +6,10 @@ use Rattle.model_core.specs.declared.field.Field.{Field}
 use Rattle.model_core.specs.declared.model.Model.{Model}
 use Rattle.model_core.specs.Component.{Component, copies_of}
 
--- A scalar coordinate. The dummy has no field and no charge, and fills the free legs of terms with a dimension.
+-- What stands on a leg: a component of a field, or the dummy. The dummy has no field and no charge, and fills the free legs
+-- of terms with a dimension.
 pub data Coordinate : Type 0 where
-  Scalar : Component → Coordinate
+  Of : Component → Coordinate
   Dummy : Coordinate
 
 -- a complex scalar has first all plain components and then all conjugate ones
@@ -21,7 +22,7 @@ scalar_components model = flat_map (coordinates_of model.groups) model.scalars
 
 -- the scalar coordinates, the dummy last
 abbrev pub scalar_coordinates : Model → List Coordinate
-scalar_coordinates model = map Scalar (scalar_components model) ++ Dummy ∷ []
+scalar_coordinates model = map Of (scalar_components model) ++ Dummy ∷ []
 
 -- ---- partners
 
@@ -38,7 +39,7 @@ partner_component c =
 
 -- the partner a* of a coordinate a; the dummy is its own
 abbrev pub partner : Coordinate → Coordinate
-partner (Scalar c) = Scalar (partner_component c)
+partner (Of c) = Of (partner_component c)
 partner Dummy = Dummy
 
 -- the component at one place is the partner of that at another

@@ -1,28 +1,27 @@
 -- Which models are valid: the rules on a model's parts and the limits of its sizes.
-use Rattle.std.specs.Prelude.{ℕ, Bool, true, false, ◌&&◌, ◌||◌, not, ◌==◌, nat_le, List, [], ◌∷◌, ◌++◌, map, length, Option, Some, None, IsTrue}
-use Rattle.std.specs.List.{flat_map, list_all, list_any, slice_get}
+use Rattle.std.specs.Prelude.{ℕ, Bool, true, false, ◌&&◌, ◌||◌, not, nat_le, List, [], ◌∷◌, ◌++◌, map, length, IsTrue}
+use Rattle.std.specs.List.{flat_map, list_all, list_any}
 use Rattle.std.specs.Str.{bytes_eq}
 use Rattle.model_core.specs.declared.group.Group.{Group}
 use Rattle.model_core.specs.declared.field.Field.{Field}
 use Rattle.model_core.specs.declared.table.Entry.{Entry}
 use Rattle.model_core.specs.declared.table.Table.{Table}
+use Rattle.model_core.specs.declared.term.Term.{Term}
 use Rattle.model_core.specs.declared.model.Model.{Model}
 use Rattle.frac128.specs.Rational.{zero_ℚ, eq_ℚ}
 use Rattle.su_reps.specs.declared.rep.Rep.{Rep}
 use Rattle.su_reps.specs.declared.rep.Rep.TheVariants.{Singlet, Adjoint}
+use Rattle.model_core.specs.Groups.{is_between, is_abelian, is_slot, slot_size}
 use Rattle.model_core.specs.Component.{fermion_components}
 use Rattle.model_core.specs.Scalar.{scalar_components}
-
--- from low to high
-abbrev pub is_between : ℕ → ℕ → ℕ → Bool
-is_between low high n = nat_le low n && nat_le n high
+use Rattle.model_core.specs.TermRules.{are_terms}
 
 -- no text stands twice
 abbrev pub are_distinct : List (List ℕ) → Bool
 are_distinct [] = true
 are_distinct (text ∷ texts) = not (list_any (bytes_eq text) texts) && are_distinct texts
 
--- the names of groups, of their couplings, of fermions, of scalars and of tables, which have to be distinct
+-- the names of groups, of gauge couplings, of fermions, of scalars, of tables and of terms' couplings, which have to be distinct
 abbrev pub group_names : Group → List (List ℕ)
 group_names group = group.name ∷ group.coupling ∷ []
 
@@ -32,16 +31,12 @@ field_name field = field.name
 abbrev pub table_name : Table → List ℕ
 table_name table = table.name
 
+abbrev pub term_name : Term → List ℕ
+term_name term = term.coupling
+
 abbrev pub names_of : Model → List (List ℕ)
-names_of model = flat_map group_names model.groups ++ map field_name model.fermions ++ map field_name model.scalars ++ map table_name model.tables
-
--- a group with n = 1 is the U(1)
-abbrev pub is_abelian : Group → Bool
-is_abelian group = group.n == 1
-
--- any other group is SU(n)
-abbrev pub is_special : Group → Bool
-is_special group = not (is_abelian group)
+names_of model =
+    flat_map group_names model.groups ++ map field_name model.fermions ++ map field_name model.scalars ++ map table_name model.tables ++ map term_name model.terms
 
 -- at most one U(1)
 abbrev pub has_one_abelian : List Group → Bool
@@ -84,29 +79,17 @@ is_real_rep Singlet = true
 is_real_rep Adjoint = true
 is_real_rep _ = false
 
--- a real scalar has no charge and is a singlet or in the adjoint representation of each group
+-- a field that is its own conjugate: without a charge, and a singlet or in the adjoint representation of each group
+abbrev pub is_own_conjugate : Field → Bool
+is_own_conjugate field = list_all is_real_rep field.reps && eq_ℚ field.charge zero_ℚ
+
+-- a real scalar is its own conjugate
 abbrev pub is_scalar : List Group → Field → Bool
-is_scalar groups field = is_field groups field && (not field.real || (list_all is_real_rep field.reps && eq_ℚ field.charge zero_ℚ))
+is_scalar groups field = is_field groups field && (not field.real || is_own_conjugate field)
 
 -- at most 12 scalars
 abbrev pub are_scalars : List Group → List Field → Bool
 are_scalars groups fields = nat_le (length fields) 12 && list_all (is_scalar groups) fields
-
--- a slot is the place of a group SU(n), counted from 0
-abbrev pub has_special : Option Group → Bool
-has_special None = false
-has_special (Some group) = is_special group
-
-abbrev pub is_slot : List Group → ℕ → Bool
-is_slot groups slot = has_special (slice_get groups slot)
-
--- the n of the group at a place, and 0 where there is none
-abbrev pub dimension_of : Option Group → ℕ
-dimension_of None = 0
-dimension_of (Some group) = group.n
-
-abbrev pub slot_size : List Group → ℕ → ℕ
-slot_size groups slot = dimension_of (slice_get groups slot)
 
 -- a value from 1 to n for each slot
 abbrev pub are_values : List Group → List ℕ → List ℕ → Bool
@@ -142,7 +125,7 @@ abbrev pub has_valid_fields : Model → Bool
 has_valid_fields model =
     (are_groups model.groups && are_fields model.groups model.fermions) && are_scalars model.groups model.scalars
 
--- the same of all parts
+-- the same of these and of tables
 abbrev pub has_valid_parts : Model → Bool
 has_valid_parts model = has_valid_fields model && are_tables model.groups model.tables
 
@@ -151,8 +134,12 @@ abbrev pub has_few_components : Model → Bool
 has_few_components model = nat_le (length (fermion_components model)) 512 && nat_le (length (scalar_components model)) 256
 
 -- valid parts, few enough components, and distinct names
+abbrev pub has_valid_names : Model → Bool
+has_valid_names model = (has_valid_parts model && has_few_components model) && are_distinct (names_of model)
+
+-- and terms that meet their rules
 abbrev pub is_valid : Model → Bool
-is_valid model = (has_valid_parts model && has_few_components model) && are_distinct (names_of model)
+is_valid model = has_valid_names model && are_terms model model.terms
 
 abbrev pub IsValid : Model → Type 0
 IsValid model = IsTrue (is_valid model)

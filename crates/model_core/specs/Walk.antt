@@ -1,6 +1,6 @@
 -- The bad places of a document, each rule's where its condition holds, in the order of the walk: the file's table, then
--- all groups, fermions, scalars and tables in file order. At one place the rule that comes first is the one that counts.
-use Rattle.std.specs.Prelude.{ℕ, suc, ◌==◌, nat_lt, Bool, true, false, not, ◌&&◌, if◌then◌else◌, pos, negsuc, List, [], ◌∷◌, ◌++◌, map, length, Option, Some, None, is_some, codes}
+-- all groups, fermions, scalars, tables and terms in file order. At one place the rule that comes first is the one that counts.
+use Rattle.std.specs.Prelude.{ℕ, suc, ◌==◌, Bool, true, false, not, ◌&&◌, if◌then◌else◌, pos, negsuc, List, [], ◌∷◌, ◌++◌, map, length, sum_by, Option, Some, None, is_some, codes}
 use Rattle.std.specs.List.{flat_map, list_any, list_all}
 use Rattle.std.specs.Str.{bytes_eq}
 use Rattle.toml.specs.Data.{Data, string, integer, boolean, array, table, Items, no_items, item, Members, no_members, member, get_member}
@@ -9,29 +9,25 @@ use Rattle.model_core.specs.declared.group.Group.{Group}
 use Rattle.model_core.specs.declared.field.Field.{Field}
 use Rattle.model_core.specs.declared.table.Entry.{Entry}
 use Rattle.model_core.specs.declared.table.Table.{Table}
+use Rattle.model_core.specs.declared.term.Term.{Term}
+use Rattle.model_core.specs.declared.content.SymbolBlock.{SymbolBlock}
+use Rattle.model_core.specs.declared.model.Model.{Model}
 use Rattle.model_core.specs.declared.fault.ReadFault.{ReadFault}
 use Rattle.model_core.specs.declared.fault.ReadKind.{ReadKind}
-use Rattle.model_core.specs.declared.fault.ReadKind.TheVariants.{UnknownKey, MissingKey, WrongType, BadName, RepeatedName, BadNumber, BadGroup, SecondAbelian, BadRep, BadRealScalar, Unbuilt}
-use Rattle.model_core.specs.declared.fault.Part.{Part}
+use Rattle.model_core.specs.declared.fault.ReadKind.TheVariants.{UnknownKey, MissingKey, WrongType, BadName, RepeatedName, BadNumber, BadGroup, SecondAbelian, BadRep, BadRealScalar}
 use Rattle.model_core.specs.declared.fault.Part.TheVariants as part
 use Rattle.model_core.specs.declared.fault.FaultPlace.{FaultPlace}
-use Rattle.model_core.specs.Fault.{fault, over}
+use Rattle.model_core.specs.Fault.{fault, over, place_of, key_place, bad_where, over_limit}
 use Rattle.model_core.specs.Name.{is_name, is_latex}
 use Rattle.model_core.specs.Component.{components_of}
 use Rattle.model_core.specs.Scalar.{coordinates_of}
-use Rattle.model_core.specs.Valid.{is_between, is_abelian, is_real_rep, group_names, field_name, table_name, slot_size, entry_at}
+use Rattle.model_core.specs.Groups.{is_between, is_abelian, slot_size}
+use Rattle.model_core.specs.Valid.{is_own_conjugate, group_names, field_name, table_name, term_name, entry_at}
 use Rattle.model_core.specs.Literal.{within, fraction_in}
-use Rattle.model_core.specs.Document.{text_of, number_of, fraction_of, members_of, elements, elements_of, value_or, rep_named, group_of, field_of, fermion_of, scalar_of, is_named, entry_of, table_of, tables_among, tables_at}
-
--- ---- rules
-
--- bad where the condition holds
-abbrev pub bad_where : Bool → FaultPlace → ReadKind → List ReadFault
-bad_where condition place kind = if condition then fault place kind ∷ [] else []
-
--- a count and its limit
-abbrev pub over_limit : ℕ → ℕ → FaultPlace → List ReadFault
-over_limit limit count place = if nat_lt limit count then over place count ∷ [] else []
+use Rattle.model_core.specs.Document.{text_of, number_of, fraction_of, members_of, elements, elements_of, value_or, rep_named, group_of, field_of, fermion_of, scalar_of, is_named, entry_of, table_of, tables_among, tables_at, parts_of}
+use Rattle.model_core.specs.TermMeaning.{flavour_of, term_of}
+use Rattle.model_core.specs.Content.{term_blocks, symbol_count}
+use Rattle.model_core.specs.TermWalk.{term_text_places}
 
 -- ---- rules on the value at a key: first its type, then the rest
 
@@ -91,10 +87,7 @@ reps_places groups place (table members) =
     if not (are_texts members) then fault place WrongType ∷ [] else bad_where (not (are_reps_named groups members)) place BadRep
 reps_places groups place _ = fault place WrongType ∷ []
 
--- whether a scalar is real, which it may be without a charge and in real representations alone
-abbrev pub is_own_conjugate : Field → Bool
-is_own_conjugate field = list_all is_real_rep field.reps && eq_ℚ field.charge zero_ℚ
-
+-- whether a scalar is real, which it may be where it is its own conjugate
 abbrev pub real_places : Field → FaultPlace → Data → List ReadFault
 real_places field place (boolean real) = bad_where (real && not (is_own_conjugate field)) place BadRealScalar
 real_places field place _ = fault place WrongType ∷ []
@@ -110,10 +103,26 @@ tables_places limit place (array items) =
     if not (are_tables items) then fault place WrongType ∷ [] else over_limit limit (length (tables_among items)) place
 tables_places limit place _ = fault place WrongType ∷ []
 
--- an array of tables of a part that isn't built yet
-abbrev pub unbuilt_places : FaultPlace → Data → List ReadFault
-unbuilt_places place (array items) = fault place (if are_tables items then Unbuilt else WrongType) ∷ []
-unbuilt_places place _ = fault place WrongType ∷ []
+-- ---- rules on the keys of a term
+
+-- one of these words
+abbrev pub word_places : List (List ℕ) → FaultPlace → Data → List ReadFault
+word_places words place (string text) = bad_where (not (list_any (bytes_eq text) words)) place WrongType
+word_places words place _ = fault place WrongType ∷ []
+
+-- an array of texts
+abbrev pub texts_places : FaultPlace → Data → List ReadFault
+texts_places place (array items) = bad_where (not (list_all is_text (elements items))) place WrongType
+texts_places place _ = fault place WrongType ∷ []
+
+abbrev pub truth_places : FaultPlace → Data → List ReadFault
+truth_places place (boolean truth) = []
+truth_places place _ = fault place WrongType ∷ []
+
+-- the text of a term that has these flavour labels, after the blocks of earlier terms' symbols
+abbrev pub text_places : Model → List SymbolBlock → List (List ℕ) → Term → FaultPlace → Data → List ReadFault
+text_places model blocks flavour term place (string text) = term_text_places model blocks flavour term place text
+text_places model blocks flavour term place _ = fault place WrongType ∷ []
 
 -- ---- tables of keys
 
@@ -137,13 +146,7 @@ keys_are_among names (member name value rest) = list_any (bytes_eq name) names &
 abbrev pub unknown_places : List (List ℕ) → FaultPlace → Members → List ReadFault
 unknown_places names place members = bad_where (not (keys_are_among names members)) place UnknownKey
 
--- the place of a key, and that of the next key in the list
-abbrev pub place_of : Part → ℕ → ℕ → FaultPlace
-place_of kind index at = record { part = kind; index = index; at = at }
-
-abbrev pub key_place : FaultPlace → ℕ → FaultPlace
-key_place place at = place_of place.part place.index at
-
+-- the place of the next key in the list
 abbrev pub next_key : FaultPlace → FaultPlace
 next_key place = key_place place (suc place.at)
 
@@ -251,14 +254,14 @@ entries_places groups slots place _ = fault place WrongType ∷ []
 
 -- ---- the keys of each table
 
--- the parts, with their limits; terms aren't built yet
+-- the parts, with their limits
 abbrev pub part_keys : List Key
 part_keys =
     optional (codes "group") (tables_places 4)
     ∷ optional (codes "fermion") (tables_places 24)
     ∷ optional (codes "scalar") (tables_places 12)
     ∷ optional (codes "table") (tables_places 16)
-    ∷ optional (codes "term") unbuilt_places
+    ∷ optional (codes "term") (tables_places 64)
     ∷ []
 
 abbrev pub file_keys : List Key
@@ -292,6 +295,18 @@ table_keys groups earlier members =
     required (codes "name") (name_places earlier)
     ∷ required (codes "slots") (slots_places groups)
     ∷ required (codes "entries") (entries_places groups (table_of groups members).slots)
+    ∷ []
+
+-- a term after earlier names, and after the blocks of earlier terms' symbols
+abbrev pub term_keys : Model → List (List ℕ) → List SymbolBlock → Members → List Key
+term_keys model names blocks members =
+    required (codes "coupling") (name_places names)
+    ∷ optional (codes "latex") latex_places
+    ∷ optional (codes "value") (word_places (codes "real" ∷ codes "complex" ∷ []))
+    ∷ optional (codes "shape") (word_places (codes "one" ∷ codes "matrix" ∷ codes "symmetric" ∷ []))
+    ∷ optional (codes "flavour") texts_places
+    ∷ optional (codes "hc") truth_places
+    ∷ required (codes "text") (text_places model blocks (flavour_of members) (term_of model members))
     ∷ []
 
 -- ---- the whole document
@@ -340,7 +355,21 @@ scalars_places groups names tables =
 unfoldable pub tensors_places : List Group → List (List ℕ) → List Members → List ReadFault
 tensors_places groups names tables = places_after (tensor_after groups names) (table_of groups) [] tables
 
--- the parts, by the tables of each
+-- a term, with its number, the names before it and the blocks of earlier terms' symbols
+unfoldable pub term_places : Model → List SymbolBlock → ℕ → List (List ℕ) → Members → List ReadFault
+term_places model blocks index names members = table_places (place_of part.Term index 0) (term_keys model names blocks members) members
+
+abbrev pub term_after : Model → List (List ℕ) → List Term → Members → List ReadFault
+term_after model names earlier =
+    term_places model (flat_map (term_blocks model) earlier) (suc (length earlier)) (names ++ map term_name earlier)
+
+-- all terms after earlier names, and after the last one the number of symbols
+unfoldable pub terms_places : Model → List (List ℕ) → List Members → List ReadFault
+terms_places model names tables =
+    places_after (term_after model names) (term_of model) [] tables
+    ++ over_limit 400 (sum_by symbol_count (map (term_of model) tables)) (place_of part.Term 0 0)
+
+-- the parts but for terms, by the tables of each
 unfoldable pub part_places : List Members → List Members → List Members → List Members → List ReadFault
 part_places group_tables fermion_tables scalar_tables tensor_tables =
     let groups = map group_of group_tables in
@@ -352,7 +381,13 @@ part_places group_tables fermion_tables scalar_tables tensor_tables =
     ++ (scalars_places groups (names ++ map field_name fermions) scalar_tables
     ++ tensors_places groups ((names ++ map field_name fermions) ++ map field_name scalars) tensor_tables))
 
+-- the names before those of terms
+abbrev pub part_names : Model → List (List ℕ)
+part_names model = ((flat_map group_names model.groups ++ map field_name model.fermions) ++ map field_name model.scalars) ++ map table_name model.tables
+
 -- all bad places
 unfoldable pub bad_places : Members → List ReadFault
 bad_places members =
-    table_places (place_of part.File 0 0) file_keys members ++ part_places (tables_at (codes "group") members) (tables_at (codes "fermion") members) (tables_at (codes "scalar") members) (tables_at (codes "table") members)
+    table_places (place_of part.File 0 0) file_keys members
+    ++ (part_places (tables_at (codes "group") members) (tables_at (codes "fermion") members) (tables_at (codes "scalar") members) (tables_at (codes "table") members)
+    ++ terms_places (parts_of members) (part_names (parts_of members)) (tables_at (codes "term") members))

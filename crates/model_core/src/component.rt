@@ -5,7 +5,8 @@ ghost use Rattle.model_core.specs.Component.{slot_sizes, tuples, copies_of, comp
 ghost use Rattle.model_core.specs.Scalar.{coordinates_of, scalar_coordinates, swapped_pairs, IsPartner, partner};
 ghost use Rattle.model_core.specs.Leg.{printed_generation, leg_of, scalar_leg_of, fermion_legs, scalar_legs};
 ghost use Rattle.model_core.specs.Place.{tuple_at, are_pairs};
-ghost use Rattle.model_core.specs.Valid.{is_between, is_group, is_field, are_groups, are_fields, is_real_rep, is_scalar, are_scalars, IsValid};
+ghost use Rattle.model_core.specs.Groups.{is_between};
+ghost use Rattle.model_core.specs.Valid.{is_group, is_field, are_groups, are_fields, is_real_rep, is_scalar, are_scalars, IsValid};
 
 use crate::field::Field;
 use crate::group::Group;
@@ -66,7 +67,7 @@ fn slot_sizes(groups: &[Group], reps: &[Rep]) -> Slots
 }
 
 /// How many components a field has.
-fn field_count(groups: &[Group], field: &Field) -> u32
+pub fn field_count(groups: &[Group], field: &Field) -> u32
     requires small { list_all is_group groups.now ≡ true }
     requires few { length groups.now ≤ 4 }
     requires generations { field.now.generations ≤ 6 }
@@ -165,13 +166,13 @@ fn printed_generation(field: &Field, generation: u32) -> u32
 
 /// Where a component stands among those of its field.
 #[derive(Drop)]
-struct Position {
-    generation: u32,
-    slots: Slots,
+pub struct Position {
+    pub generation: u32,
+    pub slots: Slots,
 }
 
 /// The generation and the slot values of the component at a place of a field's components, or of its conjugate's.
-fn position_of(groups: &[Group], field: &Field, place: u32) -> Position
+pub fn position_of(groups: &[Group], field: &Field, place: u32) -> Position
     requires small { list_all is_group groups.now ≡ true }
     requires few { length groups.now ≤ 4 }
     requires generations { field.now.generations ≤ 6 }

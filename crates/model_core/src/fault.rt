@@ -1,6 +1,6 @@
 //! Why a model file is refused, and where.
 ghost use Rattle.std.specs.Prelude.{◌≡◌};
-ghost use Rattle.model_core.specs.Fault.{fault, over};
+ghost use Rattle.model_core.specs.Fault.{fault, over, offset_place};
 
 /// The kinds of fault, by their numbers. The list grows with the forms that are read.
 #[derive(Clone, Copy, Debug, PartialEq, Eq)]
@@ -27,6 +27,20 @@ pub enum ReadKind {
     BadRep = 10,
     /// A real scalar has a charge, or a representation other than the singlet and the adjoint.
     BadRealScalar = 11,
+    /// A term's text is no sum, or has a `~` or a bracket where none may stand.
+    BadTermText = 12,
+    /// A word in a term's text is no field, table or `eps`.
+    UnknownField = 13,
+    /// A factor has too few or too many labels, lacks a bracket or has a number out of its range there; a label joins
+    /// slots of different groups, or those of an `eps` aren't of one group SU(n) with n equal to their number; or
+    /// flavour labels have different sizes.
+    WrongSlots = 14,
+    /// A label doesn't join two slots, of which one is a field's; or a flavour label isn't given, or doesn't stand once in
+    /// each monomial.
+    LabelCount = 15,
+    /// A term doesn't have the fields that it may have, or not in all its monomials; or these don't allow its `hc`, its
+    /// `value` or its `shape`.
+    WrongContent = 16,
     /// There are more than a model may have.
     OverLimit = 17,
     /// The document has a form that is not built yet.
@@ -45,7 +59,8 @@ pub enum Part {
 }
 
 /// A fault and its place: the part, the element counted from 1 (0 for the file itself and for totals), the number of the
-/// key in its table (0 for the element itself), and for a count above its limit the number that was found.
+/// key in its table (0 for the element itself) or the offset of a byte in a term's text, and for a count above its limit
+/// the number that was found.
 #[derive(Clone, Copy, Debug, PartialEq, Eq)]
 pub struct ReadFault {
     pub kind: ReadKind,
@@ -106,5 +121,12 @@ impl FaultPlace {
             index: self.index,
             at,
         }
+    }
+
+    /// The place of a byte in the text of a term, by its offset. One above 2^32 - 1 is given as 2^32 - 1.
+    pub fn offset(self, offset: usize) -> FaultPlace
+        ensures { result ≡ offset_place self offset }
+    {
+        self.key(offset.min(u32::MAX as usize) as u32)
     }
 }

@@ -1,6 +1,6 @@
 //! Gauge groups.
 ghost use Rattle.std.specs.Prelude.{◌≡◌};
-ghost use Rattle.model_core.specs.Valid.{is_abelian};
+ghost use Rattle.model_core.specs.Groups.{is_abelian};
 
 use crate::name::{Latex, Name};
 use frac128::ItemList;

@@ -3,8 +3,9 @@ use crate::field::FieldList;
 use crate::group::GroupList;
 use crate::name::Name;
 use crate::table::TableList;
+use crate::term::TermList;
 
-/// A gauge theory: its gauge groups, its fields and its tables. It grows with the forms that are read.
+/// A gauge theory: its gauge groups, its fields, its tables and its terms.
 #[derive(Drop)]
 pub struct Model {
     /// The version of the file's format, 1.
@@ -15,4 +16,5 @@ pub struct Model {
     pub fermions: FieldList,
     pub scalars: FieldList,
     pub tables: TableList,
+    pub terms: TermList,
 }

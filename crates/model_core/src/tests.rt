@@ -1,7 +1,7 @@
 //! Components and coordinates of a model with two groups, and names, by values counted by hand.
 use crate::{
     Entry, EntryList, Field, FieldList, Group, GroupList, Latex, Leg, Model, Name, RepList, Table,
-    TableList, fermion_count, fermion_leg, is_valid, partner, scalar_count, scalar_leg,
+    TableList, TermList, fermion_count, fermion_leg, is_valid, partner, scalar_count, scalar_leg,
 };
 use frac128::{Frac, NumberList};
 use std::alloc::Global;
@@ -58,6 +58,7 @@ fn model_of(rt: &impl Abort, alloc: Global) -> Result<Model, Fail> {
         fermions,
         scalars: FieldList::new(alloc),
         tables: TableList::new(alloc),
+        terms: TermList::new(alloc),
     })
 }
 
@@ -231,6 +232,7 @@ fn charged_model(
         fermions,
         scalars,
         tables: TableList::new(alloc),
+        terms: TermList::new(alloc),
     })
 }
 
@@ -286,6 +288,7 @@ fn a_model_without_groups(rt: HostRuntime) -> Result<(), Fail> {
         fermions,
         scalars: FieldList::new(alloc),
         tables: TableList::new(alloc),
+        terms: TermList::new(alloc),
     };
     assert!(rt; is_valid(rt.alloc(), &model)?);
     assert_eq!(rt; fermion_count(&model), 3);

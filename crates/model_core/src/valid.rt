@@ -2,7 +2,8 @@
 ghost use Rattle.std.specs.Prelude.{◌≡◌, ◌∷◌, [], ◌++◌, ◌&&◌, false, true, length, map, IfOk};
 ghost use Rattle.std.specs.List.{flat_map, list_all, list_any};
 ghost use Rattle.std.specs.Str.{bytes_eq};
-ghost use Rattle.model_core.specs.Valid.{is_between, is_abelian, has_one_abelian, is_group, is_rep, are_reps, has_charge_of, is_field, are_groups, are_fields, is_real_rep, is_scalar, are_scalars, is_slot, slot_size, are_slots, are_values, entry_at, is_entry, are_entries, is_table, are_tables, has_valid_fields, has_valid_parts, has_few_components, are_distinct, names_of, group_names, field_name, table_name, is_valid};
+ghost use Rattle.model_core.specs.Groups.{is_between, is_abelian, is_slot, slot_size};
+ghost use Rattle.model_core.specs.Valid.{has_one_abelian, is_group, is_rep, are_reps, has_charge_of, is_field, are_groups, are_fields, is_real_rep, is_own_conjugate, is_scalar, are_scalars, are_slots, are_values, entry_at, is_entry, are_entries, is_table, are_tables, has_valid_fields, has_valid_parts, has_few_components, are_distinct, names_of, group_names, field_name, table_name, term_name, has_valid_names, is_valid};
 
 use crate::component::{component_count, coordinate_count};
 use crate::field::Field;
@@ -10,12 +11,14 @@ use crate::group::Group;
 use crate::model::Model;
 use crate::name::{Name, NameList};
 use crate::table::{Entry, Table};
+use crate::term::Term;
+use crate::term_rules::are_terms;
 use frac128::Frac;
 use std::alloc::{AllocError, Global};
 use su_reps::Rep;
 
 /// Whether a number is from `low` to `high`.
-fn is_between(low: usize, high: usize, number: usize) -> bool
+pub(crate) fn is_between(low: usize, high: usize, number: usize) -> bool
     ensures { result ≡ is_between low high number }
 {
     low <= number && number <= high
@@ -140,7 +143,18 @@ fn are_real(reps: &[Rep]) -> bool
         .all(|rep| matches!(rep, Rep::Singlet | Rep::Adjoint))
 }
 
-/// Whether a scalar is as a field must be and, where it is real, has no charge and real representations.
+/// Whether a field is its own conjugate, as a real scalar has to be: without a charge, and a singlet or in the adjoint
+/// representation of each group.
+pub fn is_own_conjugate(field: &Field) -> bool
+    ensures { result ≡ is_own_conjugate field.now }
+{
+    if !are_real(field.reps.as_slice()) {
+        return false;
+    }
+    field.charge == Frac::zero()
+}
+
+/// Whether a scalar is as a field must be and, where it is real, is its own conjugate.
 fn is_scalar(groups: &[Group], field: &Field) -> bool
     ensures { result ≡ is_scalar groups.now field.now }
 {
@@ -150,10 +164,7 @@ fn is_scalar(groups: &[Group], field: &Field) -> bool
     if !field.real {
         return true;
     }
-    if !are_real(field.reps.as_slice()) {
-        return false;
-    }
-    field.charge == Frac::zero()
+    is_own_conjugate(field)
 }
 
 /// Whether each scalar is as it must be.
@@ -314,7 +325,7 @@ fn has_valid_fields(model: &Model) -> bool
 }
 
 /// Whether the parts of a model meet their rules, and are few enough.
-fn has_valid_parts(model: &Model) -> bool
+pub(crate) fn has_valid_parts(model: &Model) -> bool
     ensures { result ≡ has_valid_parts model.now }
 {
     if !has_valid_fields(model) {
@@ -335,7 +346,7 @@ fn has_few_components(model: &Model) -> bool
     coordinate_count(groups, model.scalars.as_slice()) <= 256
 }
 
-/// The names of groups, couplings, fields and tables, in file order.
+/// The names of groups, gauge couplings, fields, tables and terms' couplings, in file order.
 fn names_of(alloc: Global, model: &Model) -> Result<NameList, AllocError>
     ensures { IfOk result (λ names. names ≡ names_of model.now) }
 {
@@ -343,6 +354,7 @@ fn names_of(alloc: Global, model: &Model) -> Result<NameList, AllocError>
     push_field_names(&mut names, model.fermions.as_slice())?;
     push_field_names(&mut names, model.scalars.as_slice())?;
     push_table_names(&mut names, model.tables.as_slice())?;
+    push_term_names(&mut names, model.terms.as_slice())?;
     Ok(names)
 }
 
@@ -378,6 +390,16 @@ fn push_table_names(names: &mut NameList, tables: &[Table]) -> Result<(), AllocE
     Ok(())
 }
 
+/// Adds the names of terms' couplings.
+fn push_term_names(names: &mut NameList, terms: &[Term]) -> Result<(), AllocError>
+    ensures { IfOk result (λ _. names.new ≡ names.old ++ map term_name terms.now) }
+{
+    for term in terms {
+        names.push(term.coupling.copy())?;
+    }
+    Ok(())
+}
+
 /// Whether a name stands among others.
 fn is_among(name: &Name, names: &[Name]) -> bool
     ensures { result ≡ list_any (bytes_eq name.now) names.now }
@@ -397,14 +419,10 @@ fn are_distinct(names: &[Name]) -> bool
     }
 }
 
-/// Whether a model is valid: at most 4 groups, each the U(1) or SU(n) with n from 2 to 6, and at most one U(1); at most
-/// 24 fermion fields with 1 to 6 generations, a representation for each group, which is the singlet for the U(1), and a
-/// charge only under a U(1); at most 12 such scalars, of which the real ones have no charge and are singlets or in the
-/// adjoint representation; at most 512 fermion components and 256 scalar coordinates without the dummy; at most 16
-/// tables, each with 1 to 8 slots of groups SU(n) and at most 512 entries with a value from 1 to n for each slot, no two
-/// at the same values; and distinct names of groups, couplings, fields and tables. Only want of memory is an error.
-pub fn is_valid(alloc: Global, model: &Model) -> Result<bool, AllocError>
-    ensures { IfOk result (λ valid. valid ≡ is_valid model.now) }
+/// Whether a model's groups, fields and tables meet their rules, are few enough, and have distinct names, also from its
+/// terms' couplings.
+fn has_valid_names(alloc: Global, model: &Model) -> Result<bool, AllocError>
+    ensures { IfOk result (λ valid. valid ≡ has_valid_names model.now) }
 {
     if !has_valid_parts(model) {
         return Ok(false);
@@ -414,4 +432,21 @@ pub fn is_valid(alloc: Global, model: &Model) -> Result<bool, AllocError>
     }
     let names = names_of(alloc, model)?;
     Ok(are_distinct(names.as_slice()))
+}
+
+/// Whether a model is valid: at most 4 groups, each the U(1) or SU(n) with n from 2 to 6, and at most one U(1); at most
+/// 24 fermion fields with 1 to 6 generations, a representation for each group, which is the singlet for the U(1), and a
+/// charge only under a U(1); at most 12 such scalars, of which the real ones have no charge and are singlets or in the
+/// adjoint representation; at most 512 fermion components and 256 scalar coordinates without the dummy; at most 16
+/// tables, each with 1 to 8 slots of groups SU(n) and at most 512 entries with a value from 1 to n for each slot, no two
+/// at the same values; distinct names of groups, couplings, fields, tables and terms' couplings; and at most 64 terms that
+/// meet the rules of the format, with at most 400 symbols, which give no block more than 4 directions. Only want of memory
+/// is an error.
+pub fn is_valid(alloc: Global, model: &Model) -> Result<bool, AllocError>
+    ensures { IfOk result (λ valid. valid ≡ is_valid model.now) }
+{
+    if !has_valid_names(alloc, model)? {
+        return Ok(false);
+    }
+    are_terms(alloc, model, model.terms.as_slice())
 }

@@ -4,7 +4,7 @@ use Rattle.std.proofs.lemmas.List.{length-map, take_all}
 use Rattle.std.proofs.lemmas.List.Folds.{length-flat_map-take}
 use Rattle.std.proofs.lemmas.Option.{slice_get_within}
 use Rattle.model_core.specs.Scalar.{coordinates_of, scalar_components, IsPartner}
-use Rattle.model_core.specs.Scalar.Coordinate.{Scalar, Dummy}
+use Rattle.model_core.specs.Scalar.Coordinate.{Of, Dummy}
 use Rattle.model_core.specs.Valid.{is_scalar}
 use Rattle.model_core.proofs.ValidLaws.{valid_parts, parts_scalars, valid_scalar_count}
 use Rattle.model_core.proofs.ScalarLaws.{scalar_passes, scalar_generations}
@@ -71,5 +71,5 @@ returns c =
     let counted : c.loop-field.before ≡ length (scalar_components model) =
     c.loop-field.invariant.counted ∙ ap₂ (λ gs fs. length (flat_map (coordinates_of gs) (take i fs))) groups items ∙ ap (λ fs. length (flat_map (coordinates_of model.groups) fs)) all in
     let below : c.args.place < length (scalar_components model) + 1 =
-    omega (arith, c.requires.place, length-append (map Scalar (scalar_components model)) (Dummy ∷ []), length-map (scalar_components model) Scalar) in
+    omega (arith, c.requires.place, length-append (map Of (scalar_components model)) (Dummy ∷ []), length-map (scalar_components model) Of) in
     dummy_partner model c.args.place (omega (arith, counted, below, c.loop-field.invariant.behind))

@@ -6,7 +6,7 @@ use Rattle.exact_algebra.specs.Blocks.{slice_get-append_left}
 use Rattle.model_core.specs.declared.leg.Leg.TheVariants.{Dummy}
 use Rattle.model_core.specs.Leg.{scalar_leg_of}
 use Rattle.model_core.specs.Scalar.{coordinates_of, scalar_components}
-use Rattle.model_core.specs.Scalar.Coordinate.{Scalar}
+use Rattle.model_core.specs.Scalar.Coordinate.{Of}
 use Rattle.model_core.specs.Scalar.Coordinate.{Dummy as NoField}
 use Rattle.model_core.proofs.CountLaws.{image_at}
 use Rattle.model_core.proofs.ValidLaws.{valid_parts, parts_scalars}
@@ -51,5 +51,5 @@ returns c =
     c.loop-field.invariant ∙ ap₂ (λ gs fs. length (flat_map (coordinates_of gs) (take i fs)) + c.loop-field.rest) groups items
     ∙ ap (λ fs. length (flat_map (coordinates_of model.groups) fs) + c.loop-field.rest) all in
     let below : c.args.place < length (scalar_components model) + 1 =
-    omega (arith, c.requires.place, length-append (map Scalar (scalar_components model)) (NoField ∷ []), length-map (scalar_components model) Scalar) in
+    omega (arith, c.requires.place, length-append (map Of (scalar_components model)) (NoField ∷ []), length-map (scalar_components model) Of) in
     dummy_at (map scalar_leg_of (scalar_components model)) c.args.place Dummy (omega (arith, so_far, below, length-map (scalar_components model) scalar_leg_of))

@@ -1,7 +1,7 @@
 use Rattle.std.proofs.Common.{◌≡◌, length, ap, ◌∙◌, arith}
 use Rattle.std.specs.List.{list_all}
 use Rattle.model_core.specs.Component.{slot_sizes}
-use Rattle.model_core.specs.Valid.{is_between}
+use Rattle.model_core.specs.Groups.{is_between}
 use Rattle.model_core.proofs.CountLaws.{slot_sizes-small, slot_sizes-few}
 use Rattle.model_core.proofs.component.slot_sizes.Goals as goal
 
