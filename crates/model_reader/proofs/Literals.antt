@@ -4,7 +4,9 @@ use Rattle.std.specs.Prelude.{◌&&◌, ◌==◌, nat_lt, option_map, MatchResul
 use Rattle.std.specs.Char.{is_ascii_digit}
 use Rattle.std.specs.List.{list_all, position_or_len}
 use Rattle.std.specs.Option.{MatchOption}
-use Rattle.std.specs.Str.{all_ascii_digits}
+use Rattle.std.specs.Str.{all_ascii_digits, IsAscii, IsUtf8}
+use Rattle.std.proofs.lemmas.Str.{IsUtf8-from_ascii}
+use Rattle.std.proofs.lemmas.Str.Ascii.{IsAscii-nil, IsAscii-cons}
 use Rattle.std.specs.Str.Parse.{digits_value, ParsesUnsigned, starts_with_minus}
 use Rattle.std.specs.Str.Pattern.{FindsCharPrefix}
 use Rattle.std.proofs.lemmas.Bool.{cases_Bool}
@@ -12,7 +14,8 @@ use Rattle.std.proofs.lemmas.Bool.Decides.{nat_tests, leb_tells}
 use Rattle.std.proofs.lemmas.Str.Parse.{parse_digits, numerals_by_value, tells_all_ascii_digits}
 use Rattle.std.proofs.lemmas.Str.Pattern.{IsSplitOnceResult, split_once_first, strip_prefix_char}
 use Rattle.frac128.specs.Rational.{neg_ℚ}
-use Rattle.model_core.specs.Literal.{within, number_between, around_slash, fraction_of_parts, whole_of, quotient_of, unsigned_fraction, text_fraction}
+use Rattle.model_core.specs.Groups.{is_between}
+use Rattle.model_core.specs.Literal.{are_digits, within, number_between, around_slash, fraction_of_parts, whole_of, quotient_of, unsigned_fraction, text_fraction}
 
 all_digits : (text : List ℕ) → list_all is_ascii_digit text ≡ all_ascii_digits text
 all_digits [] = refl
@@ -49,6 +52,36 @@ not_digits low high text other = elim (cases_Bool (nat_lt 0 (length text))) [
   | inl some ↦ rw (some, other) refl
   | inr none ↦ rw none refl
 ]
+
+digits_are_ascii : (text : List ℕ) → all_ascii_digits text ≡ true → IsAscii text
+digits_are_ascii [] digits = IsAscii-nil
+digits_are_ascii (c ∷ cs) digits =
+    let parts = tells_all_ascii_digits.parts c cs digits in
+    let small : c < 128 = omega (arith, parts.0) in
+    IsAscii-cons c cs small (digits_are_ascii cs parts.1)
+
+-- what isn't UTF-8 has another byte
+pub not_text : (low high : ℕ) (text : List ℕ) → (IsUtf8 text → ⊥) → number_between low high text ≡ None
+not_text low high text other = elim (cases_Bool (list_all is_ascii_digit text)) [
+  | inl digits ↦ absurd (other (IsUtf8-from_ascii text (digits_are_ascii text (sym (all_digits text) ∙ digits))))
+  | inr differs ↦ not_digits low high text differs
+]
+
+some_within : (low high n value : ℕ) → within low high n ≡ Some value → value ≡ n
+some_within low high n value found = by_test (is_between low high n) found
+  where
+    by_test : (test : Bool) → cond test (Some n) None ≡ Some value → value ≡ n
+    by_test true found = cc
+    by_test false found = let never : ⊥ = cc in absurd never
+
+some_number : (low high value : ℕ) (text : List ℕ) (digits : Bool) → cond digits (within low high (digits_value 10 text)) None ≡ Some value → value ≡ digits_value 10 text
+some_number low high value text true found = some_within low high (digits_value 10 text) value found
+some_number low high value text false found = let never : ⊥ = cc in absurd never
+
+-- the number is the digits' value
+pub value_of_number : (low high value : ℕ) (text : List ℕ) → number_between low high text ≡ Some value → value ≡ digits_value 10 text
+unfolding number_between
+value_of_number low high value text found = some_number low high value text (are_digits text) found
 
 -- what stands around the first slash
 split_at_slash : (text : List ℕ) (r : Option (Bor (List ℕ) × Bor (List ℕ))) → IsSplitOnceResult 47 text r

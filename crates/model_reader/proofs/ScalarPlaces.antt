@@ -6,15 +6,16 @@ use Rattle.model_core.specs.declared.group.Group.{Group}
 use Rattle.model_core.specs.declared.fault.FaultPlace.{FaultPlace}
 use Rattle.model_core.specs.declared.fault.Part.TheVariants as part
 use Rattle.model_core.specs.Document.{field_of}
-use Rattle.model_core.specs.Walk.{Key, optional, place_of, next_key, key_places, scalar_keys, fermion_keys, value_places, found_places, real_places, scalar_places}
+use Rattle.model_core.specs.Fault.{place_of}
+use Rattle.model_core.specs.Walk.{Key, optional, next_key, key_places, scalar_keys, fermion_keys, value_places, found_places, real_places, scalar_places}
 use Rattle.model_reader.specs.FieldValues.{field_value_places}
 
 -- the place of the key that stands so many keys later
-abbrev key_after : ℕ → FaultPlace → FaultPlace
+abbrev pub key_after : ℕ → FaultPlace → FaultPlace
 key_after zero place = place
 key_after (suc n) place = key_after n (next_key place)
 
-value_places-append : (place : FaultPlace) (keys more : List Key) (members : Members)
+pub value_places-append : (place : FaultPlace) (keys more : List Key) (members : Members)
     → value_places place (keys ++ more) members ≡ value_places place keys members ++ value_places (key_after (length keys) place) more members
 value_places-append place [] more _ = refl
 value_places-append place (key ∷ keys) more members =

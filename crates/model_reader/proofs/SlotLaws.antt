@@ -13,19 +13,21 @@ use Rattle.model_core.specs.declared.fault.FaultPlace.{FaultPlace}
 use Rattle.model_core.specs.declared.fault.ReadFault.{ReadFault}
 use Rattle.model_core.specs.declared.fault.ReadKind.{ReadKind}
 use Rattle.model_core.specs.declared.fault.ReadKind.TheVariants.{BadGroup}
-use Rattle.model_core.specs.Valid.{is_between, is_special, is_slot, slot_size, are_slots, are_values}
+use Rattle.model_core.specs.Groups.{is_between, is_special, is_slot, slot_size}
+use Rattle.model_core.specs.Valid.{are_slots, are_values}
 use Rattle.model_core.specs.Document.{text_of, number_of, elements_of, numbers_of, is_named, slot_of, slots_of}
-use Rattle.model_core.specs.Walk.{bad_where, is_text, names_special, slot_count_places, slot_list_places, slots_places, slot_value, are_slot_values, at_places}
+use Rattle.model_core.specs.Fault.{bad_where}
+use Rattle.model_core.specs.Walk.{is_text, names_special, slot_count_places, slot_list_places, slots_places, slot_value, are_slot_values, at_places}
 use Rattle.model_core.proofs.ValidLaws.{both}
 use Rattle.model_reader.proofs.TableLaws.{elements_back}
 
 -- ---- lists of bad places that are empty
 
-none_bad : (b : Bool) (place : FaultPlace) (kind : ReadKind) → bad_where (not b) place kind ≡ [] → b ≡ true
+pub none_bad : (b : Bool) (place : FaultPlace) (kind : ReadKind) → bad_where (not b) place kind ≡ [] → b ≡ true
 none_bad true place kind none = refl
 none_bad false place kind none = let never : ⊥ = cc in absurd never
 
-none_before : (first second : List ReadFault) → first ++ second ≡ [] → (first ≡ []) × (second ≡ [])
+pub none_before : (first second : List ReadFault) → first ++ second ≡ [] → (first ≡ []) × (second ≡ [])
 none_before [] second none = (refl, none)
 none_before (fault ∷ faults) second none = let never : ⊥ = cc in absurd never
 

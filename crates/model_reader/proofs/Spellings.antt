@@ -1,15 +1,16 @@
 -- How the spelling of a list grows with it, as its items are read.
-use Rattle.std.proofs.Common.{◌≡◌, Bool, true, false, List, [], ◌∷◌, ◌++◌, length, refl, sym, ap, ◌∙◌, append_assoc, arith}
-use Rattle.std.specs.Prelude.{◌&&◌, nat_lt}
+use Rattle.std.proofs.Common.{◌≡◌, Bool, true, false, List, [], ◌∷◌, ◌++◌, length, sym, ap, ◌∙◌, append_assoc}
+use Rattle.std.specs.Prelude.{nat_lt}
 use Rattle.std.specs.List.{flat_map, list_all}
 use Rattle.std.proofs.lemmas.List.{append-nil}
-use Rattle.std.proofs.lemmas.Bool.Decides.{nat_tests}
 use Rattle.model_core.specs.declared.sum.Token.{Token}
 use Rattle.model_core.specs.declared.sum.WrittenMonomial.{WrittenMonomial}
 use Rattle.model_core.specs.TermText.{monomial_tokens, signed_tokens, first_sign, sign, spelling, has_factors, is_whole}
-use Rattle.model_reader.specs.Grammar.{Start, AfterSign, AfterFactors, verdict}
+use Rattle.model_core.specs.TermGrammar.{Start, AfterSign, AfterFactors, verdict}
+use Rattle.model_core.proofs.ValidLaws.{both}
+use Rattle.model_core.proofs.BoolLaws.{both_hold, filled}
 use Rattle.model_reader.specs.Parsing.{Reads}
-use Rattle.model_reader.proofs.ValidParts.{list_all_push}
+use Rattle.model_core.proofs.ValidParts.{list_all_push}
 use Rattle.model_reader.proofs.Verdicts.{reads_then}
 
 -- ---- one more item
@@ -18,26 +19,16 @@ pub flat_map-push : {A B : Type 0} (f : A → List B) (xs : List A) (x : A) → 
 flat_map-push f [] x = append-nil (f x)
 flat_map-push f (y ∷ xs) x = ap (λ rest. f y ++ rest) (flat_map-push f xs x) ∙ sym (append_assoc (f y) (flat_map f xs) (f x))
 
-pub filled : {A : Type 0} (x : A) (xs : List A) → nat_lt 0 (length (x ∷ xs)) ≡ true
-filled x xs = grind (arith, nat_tests)
-
 pub spelling_push : (sum : List WrittenMonomial) (next : WrittenMonomial) → is_whole sum ≡ true → spelling (sum ++ next ∷ []) ≡ spelling sum ++ signed_tokens next
 spelling_push [] next some = let never : ⊥ = cc in absurd never
 spelling_push (first ∷ sum) next some =
     ap (λ rest. (first_sign first.negative ++ monomial_tokens first) ++ rest) (flat_map-push signed_tokens sum next)
     ∙ sym (append_assoc (first_sign first.negative ++ monomial_tokens first) (flat_map signed_tokens sum) (signed_tokens next))
 
-pub both_parts : (a b : Bool) → (a && b) ≡ true → (a ≡ true) × (b ≡ true)
-both_parts true b both = (refl, both)
-both_parts false b both = let never : ⊥ = cc in absurd never
-
-pub both_hold : (a b : Bool) → a ≡ true → b ≡ true → (a && b) ≡ true
-both_hold a b first second = rw (first, second) refl
-
 pub whole_push : (sum : List WrittenMonomial) (next : WrittenMonomial) → is_whole sum ≡ true → has_factors next ≡ true → is_whole (sum ++ next ∷ []) ≡ true
 whole_push [] next some this = let never : ⊥ = cc in absurd never
 whole_push (first ∷ sum) next all this =
-    let parts = both_parts (nat_lt 0 (length (first ∷ sum))) (list_all has_factors (first ∷ sum)) all in
+    let parts = both (nat_lt 0 (length (first ∷ sum))) (list_all has_factors (first ∷ sum)) all in
     both_hold (nat_lt 0 (length (first ∷ (sum ++ next ∷ [])))) (list_all has_factors (first ∷ (sum ++ next ∷ [])))
     (filled first (sum ++ next ∷ [])) (list_all_push has_factors (first ∷ sum) next parts.1 this)
 

@@ -1,7 +1,7 @@
 -- Parts of a sum that are read one after another.
 use Rattle.std.proofs.Common.{◌≡◌, ◌≤◌, List, [], ◌∷◌, ◌++◌, length, Some, refl, sym, ap, ◌∙◌, append_assoc, arith}
 use Rattle.model_core.specs.declared.sum.Token.{Token}
-use Rattle.model_reader.specs.Grammar.{State, AfterMonomials, verdict}
+use Rattle.model_core.specs.TermGrammar.{State, AfterMonomials, verdict}
 use Rattle.model_reader.specs.Parsing.{Reads}
 
 pub reads_then : (p q r : State) (a x b y c : List Token) → Reads p q a x b → Reads q r b y c → Reads p r a (x ++ y) c

@@ -1,16 +1,17 @@
 -- What the steps of reading a sum answer.
-use Rattle.std.specs.Prelude.{◌≡◌, ℕ, ◌==◌, Bool, true, false, ◌||◌, List, ◌∷◌, ◌++◌, Some, Result, Ok, Err}
+use Rattle.std.specs.Prelude.{◌≡◌, ℕ, ◌==◌, nat_le, Bool, true, false, ◌||◌, List, ◌∷◌, ◌++◌, length, Some, None, Result, Ok, Err}
+use Rattle.std.specs.List.{list_all}
 use Rattle.std.specs.Borrow.{Bor}
 use Rattle.model_core.specs.declared.sum.Token.{Token}
 use Rattle.model_core.specs.declared.sum.Token.TheVariants.{Word, Digits, Tilde, Open, Mark}
 use Rattle.model_core.specs.declared.sum.WrittenMonomial.{WrittenMonomial}
-use Rattle.model_core.specs.TermText.{minus, plus, spelling, is_whole, IsSum, IsFirstBad}
+use Rattle.model_core.specs.TermText.{minus, plus, spelling, is_whole}
 use Rattle.model_reader.specs.declared.term_text.ParsedSum.{ParsedSum}
 use Rattle.model_reader.specs.declared.term_text.ParsedSum.TheVariants.{Sum, Bad}
 use Rattle.model_reader.specs.declared.term_text.Stop.{Stop}
 use Rattle.model_reader.specs.declared.term_text.Stop.TheVariants.{Left, NoMemory}
-use Rattle.model_reader.specs.Placed.{AreOf}
-use Rattle.model_reader.specs.Grammar.{State, Start, verdict}
+use Rattle.model_core.specs.TermGrammar.{State, Start, verdict, bad_offset, sum_in}
+use Rattle.model_core.specs.TermMeaning.{written_labels}
 
 -- the tokens begin with such a one
 abbrev pub begins_mark : ℕ → List Token → Bool
@@ -55,12 +56,17 @@ abbrev pub IsRead : List Token → Result (List WrittenMonomial) Stop → Type 0
 IsRead tokens (Ok sum) = (is_whole sum ≡ true) × (tokens ≡ spelling sum)
 IsRead tokens (Err stop) = Stops Start tokens stop
 
--- A text is the sum that was read, or stops to be one at the offset.
-abbrev pub IsParsed : List ℕ → ParsedSum → Type 0
-IsParsed text (Sum sum) = IsSum text sum
-IsParsed text (Bad offset) = IsFirstBad text offset
+-- what was parsed is what the grammar says
+abbrev pub ParsedAs : List ℕ → ParsedSum → Type 0
+ParsedAs text (Sum sum) = (bad_offset text ≡ None) × (sum ≡ sum_in text)
+ParsedAs text (Bad offset) = bad_offset text ≡ Some offset
 
--- The sum that was read has its words, digits and marks in the text.
-abbrev pub IsPlacedSum : List ℕ → ParsedSum → Type 0
-IsPlacedSum text (Sum sum) = AreOf text sum
-IsPlacedSum text (Bad offset) = Unit {0}
+-- ---- few labels
+
+abbrev pub has_labels_within : ℕ → WrittenMonomial → Bool
+has_labels_within count monomial = nat_le (length (written_labels monomial)) count
+
+-- a sum's monomials have at most as many labels as its text has bytes
+abbrev pub HasFewLabels : List ℕ → ParsedSum → Type 0
+HasFewLabels text (Sum sum) = list_all (has_labels_within (length text)) sum ≡ true
+HasFewLabels text (Bad offset) = Unit {0}

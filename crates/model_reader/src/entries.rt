@@ -5,7 +5,8 @@ ghost use Rattle.std.specs.Str.{bytes_eq};
 ghost use Rattle.toml.specs.View.{view};
 ghost use Rattle.model_core.specs.Valid.{are_values, entry_at, is_entry, are_entries, are_distinct};
 ghost use Rattle.model_core.specs.Document.{number_of, elements_of, numbers_of, members_of, entry_of, entries_of};
-ghost use Rattle.model_core.specs.Walk.{bad_where, is_integer, are_integers, is_literal, is_entry_table, slot_value, are_slot_values, at_places, entry_places, entry_list_places, entries_places, places_after};
+ghost use Rattle.model_core.specs.Fault.{bad_where};
+ghost use Rattle.model_core.specs.Walk.{is_integer, are_integers, is_literal, is_entry_table, slot_value, are_slot_values, at_places, entry_places, entry_list_places, entries_places, places_after};
 ghost use Rattle.model_reader.specs.EntryValues.{HasEntryValues};
 ghost use Rattle.model_reader.specs.Walked.{Walked, Passes};
 
@@ -173,7 +174,7 @@ fn entry_of(
 }
 
 /// The entries that values are.
-#[tactic(auto, using(crate::proofs::Firsts::first_before, crate::proofs::ValidParts::list_all_push, crate::proofs::ValidParts::entry_push))]
+#[tactic(auto, using(crate::proofs::Firsts::first_before, model_core::proofs::ValidParts::list_all_push, model_core::proofs::ValidParts::entry_push))]
 fn entries_of(
     alloc: Global,
     place: FaultPlace,

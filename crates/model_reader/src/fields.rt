@@ -97,7 +97,7 @@ fn scalar_of(
 }
 
 /// The fermions that tables are, after names that were met.
-#[tactic(auto, using(crate::proofs::Firsts::first_before, crate::proofs::ValidParts::list_all_push))]
+#[tactic(auto, using(crate::proofs::Firsts::first_before, model_core::proofs::ValidParts::list_all_push))]
 pub fn fermions_of(
     alloc: Global,
     groups: &GroupList,
@@ -122,7 +122,7 @@ pub fn fermions_of(
 }
 
 /// The scalars that tables are, after names that were met.
-#[tactic(auto, using(crate::proofs::Firsts::first_before, crate::proofs::ValidParts::list_all_push))]
+#[tactic(auto, using(crate::proofs::Firsts::first_before, model_core::proofs::ValidParts::list_all_push))]
 pub fn scalars_of(
     alloc: Global,
     groups: &GroupList,

@@ -2,9 +2,11 @@
 ghost use Rattle.std.specs.Prelude.{◌≡◌, ◌++◌, [], true, false, ◌&&◌, map, length, ◌<◌, ◌≤◌, IfOk};
 ghost use Rattle.std.specs.List.{flat_map, list_any};
 ghost use Rattle.toml.specs.View.{table_view};
-ghost use Rattle.model_core.specs.Valid.{group_names, is_abelian, is_group, are_groups, are_distinct};
+ghost use Rattle.model_core.specs.Groups.{is_abelian};
+ghost use Rattle.model_core.specs.Valid.{group_names, is_group, are_groups, are_distinct};
 ghost use Rattle.model_core.specs.Document.{group_of};
-ghost use Rattle.model_core.specs.Walk.{group_places, key_places, group_keys, value_places, key_place, places_after};
+ghost use Rattle.model_core.specs.Fault.{key_place};
+ghost use Rattle.model_core.specs.Walk.{group_places, key_places, group_keys, value_places, places_after};
 ghost use Rattle.model_reader.specs.Tables.{table_views};
 ghost use Rattle.model_reader.specs.Walked.{Walked, Passes};
 ghost use Rattle.model_reader.specs.Required.{HasValues};
@@ -85,7 +87,7 @@ fn group_of(earlier: &GroupList, names: &mut Names, table: &Table) -> Result<Gro
 }
 
 /// The groups that tables are. Their names are the first that are met.
-#[tactic(auto, using(crate::proofs::Firsts::first_before, crate::proofs::ValidParts::list_all_push, crate::proofs::ValidParts::abelian_push))]
+#[tactic(auto, using(crate::proofs::Firsts::first_before, model_core::proofs::ValidParts::list_all_push, model_core::proofs::ValidParts::abelian_push))]
 pub fn groups_of(
     alloc: Global,
     names: &mut Names,

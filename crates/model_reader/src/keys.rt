@@ -13,7 +13,7 @@ use model_core::{FaultPlace, ReadKind};
 use toml::{Table, Value};
 
 /// Whether the key is one of these words.
-fn is_among(key: &str, words: &[&str]) -> bool
+pub fn is_among(key: &str, words: &[&str]) -> bool
     ensures { result ≡ list_any (bytes_eq key.now) (texts words.now) }
 {
     for word in words {

@@ -13,14 +13,24 @@ mod reps;
 mod slots;
 mod tables;
 mod tensors;
+mod term_checks;
+mod term_factors;
+mod term_generations;
+mod term_keys;
+mod term_labels;
+mod term_literals;
+mod term_referents;
+mod term_sum;
 mod term_text;
 mod term_tokens;
+mod term_words;
+mod terms;
 mod values;
 
 pub use error::ReadError;
 pub use model_core::{Part, ReadFault, ReadKind};
 pub use reader::read_model;
-pub use term_text::{ParsedSum, a_text_is_one_sum, parse_sum};
+pub use term_text::{ParsedSum, parse_sum};
 
 #[cfg(test)]
 mod fault_tests;
@@ -36,4 +46,13 @@ mod names_tests;
 mod part_tests;
 #[cfg(test)]
 mod table_tests;
+#[cfg(test)]
+mod term_key_tests;
+#[cfg(test)]
+mod term_rule_tests;
+#[cfg(test)]
+mod term_tests;
+#[cfg(test)]
 mod term_text_tests;
+#[cfg(test)]
+mod term_value_tests;

@@ -47,20 +47,31 @@ fn number_between(low: u32, high: u32, digits: &str) -> Option<u32>
     }
 }
 
+/// The number from `low` to `high` that bytes stand for as decimal digits.
+pub fn number_in(low: u32, high: u32, digits: &[u8]) -> Option<u32>
+    ensures value { result ≡ number_between low high digits.now }
+    ensures bounds { IfSome result (λ n. (low ≤ n) × (n ≤ high)) }
+{
+    match str::from_utf8(digits) {
+        Ok(digits) => number_between(low, high, digits),
+        Err(_) => None,
+    }
+}
+
 /// The whole number that digits are.
-fn whole_of(digits: &str) -> Option<Frac>
+pub fn whole_of(digits: &[u8]) -> Option<Frac>
     ensures { result ≡ whole_of digits.now }
 {
-    let number = number_between(0, MOST_NUMERATOR, digits)?;
+    let number = number_in(0, MOST_NUMERATOR, digits)?;
     Some(Frac::whole(i64::from(number)))
 }
 
 /// A numerator over a denominator.
-fn quotient_of(above: &str, below: &str) -> Option<Frac>
+pub fn quotient_of(above: &[u8], below: &[u8]) -> Option<Frac>
     ensures { result ≡ quotient_of above.now below.now }
 {
-    let num = number_between(0, MOST_NUMERATOR, above)?;
-    let den = number_between(1, MOST_DENOMINATOR, below)?;
+    let num = number_in(0, MOST_NUMERATOR, above)?;
+    let den = number_in(1, MOST_DENOMINATOR, below)?;
     Frac::new(i128::from(num), i128::from(den)).ok()
 }
 
@@ -69,8 +80,8 @@ fn unsigned_fraction(text: &str) -> Option<Frac>
     ensures { result ≡ unsigned_fraction text.now }
 {
     match text.split_once('/') {
-        Some((above, below)) => quotient_of(above, below),
-        None => whole_of(text),
+        Some((above, below)) => quotient_of(above.as_bytes(), below.as_bytes()),
+        None => whole_of(text.as_bytes()),
     }
 }
 

@@ -1,6 +1,8 @@
 //! Fractions as a file writes them: the numbers in lowest terms, or 0/0 where a text is none.
+use crate::fault_tests::check_remark;
 use crate::literal::{text_fraction, whole_fraction};
 use frac128::Frac;
+use std::alloc::{AllocError, Global};
 use std::test::Fail;
 
 fn numbers(fraction: Option<Frac>) -> (i128, i128) {
@@ -10,55 +12,65 @@ fn numbers(fraction: Option<Frac>) -> (i128, i128) {
     }
 }
 
-#[test]
-fn fractions(rt: HostRuntime) {
-    let rows: [(&str, (i128, i128)); 10] = [
-        ("0", (0, 1)),
-        ("-0", (0, 1)),
-        ("0/1", (0, 1)),
-        ("1/1000000", (1, 1_000_000)),
-        ("1000000000/1", (1_000_000_000, 1)),
-        ("-1000000000/1000000", (-1000, 1)),
-        ("000000000000000000000000001", (1, 1)),
-        ("007/0003", (7, 3)),
-        ("-6/4", (-3, 2)),
-        ("12", (12, 1)),
-    ];
-    for (text, answer) in rows {
-        assert_eq!(rt; numbers(text_fraction(text)), answer);
+/// Texts, and the fractions that they write.
+const FRACTIONS: &str = "
+0 => 0/1
+-0 => 0/1
+0/1 => 0/1
+1/1000000 => 1/1000000
+1000000000/1 => 1000000000/1
+-1000000000/1000000 => -1000/1
+000000000000000000000000001 => 1/1
+007/0003 => 7/3
+-6/4 => -3/2
+12 => 12/1
+1/0 => none
+1/1000001 => none
+1000000001 => none
+-1000000001/2 => none
+99999999999999999999 => none
++1 => none
+1/+2 => none
+1/-2 => none
+--1 => none
+-+1 => none
+- => none
+ => none
+1/ => none
+/2 => none
+/ => none
+1/2/3 => none
+ 1 => none
+1  => none
+- 1 => none
+1_000 => none
+0x1 => none
+1.5 => none
+١ => none
+";
+
+fn told(alloc: Global, fraction: Option<Frac>) -> Result<String, AllocError> {
+    match fraction {
+        Some(fraction) => {
+            let num = fraction.num();
+            let den = fraction.den();
+            format!(in alloc; "{num}/{den}")
+        }
+        None => format!(in alloc; "none"),
     }
 }
 
 #[test]
-fn other_texts(rt: HostRuntime) {
-    let texts: [&str; 23] = [
-        "1/0",
-        "1/1000001",
-        "1000000001",
-        "-1000000001/2",
-        "99999999999999999999",
-        "+1",
-        "1/+2",
-        "1/-2",
-        "--1",
-        "-+1",
-        "-",
-        "",
-        "1/",
-        "/2",
-        "/",
-        "1/2/3",
-        " 1",
-        "1 ",
-        "- 1",
-        "1_000",
-        "0x1",
-        "1.5",
-        "١",
-    ];
-    for text in texts {
-        assert!(rt; text_fraction(text).is_none());
+fn fractions(rt: HostRuntime) -> Result<(), AllocError> {
+    for row in FRACTIONS.lines() {
+        let Some((text, fraction)) = row.split_once(" => ") else {
+            check_remark(&rt, row);
+            continue;
+        };
+        let told = told(rt.alloc(), text_fraction(text))?;
+        assert_eq!(rt; told.as_str(), fraction, "{row}");
     }
+    Ok(())
 }
 
 #[test]

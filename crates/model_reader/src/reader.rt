@@ -1,16 +1,18 @@
 //! From the bytes of a file to its model.
-ghost use Rattle.std.specs.Prelude.{◌≡◌, ◌++◌, ◌≤◌, Some, IfOk, length, map, true, codes};
+ghost use Rattle.std.specs.Prelude.{◌≡◌, ◌&&◌, ◌++◌, ◌≤◌, [], Some, IfOk, length, map, true, codes};
 ghost use Rattle.std.specs.List.{flat_map};
 ghost use Rattle.toml.specs.Data.{get_member};
 ghost use Rattle.toml.specs.View.{view, table_view};
 ghost use Rattle.model_core.specs.Component.{components_of};
 ghost use Rattle.model_core.specs.Scalar.{coordinates_of};
-ghost use Rattle.model_core.specs.Valid.{IsValid, are_groups, are_fields, are_scalars, are_tables, are_distinct, field_name};
-ghost use Rattle.model_core.specs.Document.{number_of, text_of, tables_at, group_of, fermion_of, scalar_of, model_of};
-ghost use Rattle.model_core.specs.Walk.{place_of, key_place, key_places, value_places, file_keys, part_keys, integer_places, name_places, over_limit, fermions_places, scalars_places, part_places, bad_places};
-ghost use Rattle.model_core.specs.Reading.{reading};
+ghost use Rattle.model_core.specs.Valid.{IsValid, has_valid_parts, has_few_components, are_groups, are_fields, are_scalars, are_tables, are_distinct, field_name};
+ghost use Rattle.model_core.specs.Document.{number_of, text_of, tables_at, group_of, fermion_of, scalar_of};
+ghost use Rattle.model_core.specs.TermRules.{are_terms};
+ghost use Rattle.model_core.specs.Fault.{key_place};
+ghost use Rattle.model_core.specs.Walk.{key_places, value_places, file_keys, part_keys, integer_places, name_places, fermions_places, scalars_places, part_places, part_names, bad_places};
+ghost use Rattle.model_core.specs.Reading.{reading, model_of};
 ghost use Rattle.model_reader.specs.Gives.{Gives};
-ghost use Rattle.model_reader.specs.Parts.{document_or_fault, HasHead, part_lists, ArePartsFew, model_with, places_of};
+ghost use Rattle.model_reader.specs.Parts.{document_or_fault, HasHead, part_lists, ArePartsFew, model_with, places_of, whole_places, whole_model};
 ghost use Rattle.model_reader.specs.Walked.{Walked, Passes};
 ghost use Rattle.model_reader.specs.Tables.{table_views};
 
@@ -19,11 +21,12 @@ use crate::fields::{fermions_of, scalars_of};
 use crate::groups::groups_of;
 use crate::keys::{only_keys, required};
 use crate::names::Names;
-use crate::tables::{tables_at, unbuilt_tables};
+use crate::tables::{few_in_all, tables_at};
 use crate::tensors::tensors_of;
+use crate::terms::terms_of;
 use crate::values::{name, profile};
 use model_core::{
-    FaultPlace, FieldList, GroupList, Model, Name, Part, ReadKind, component_count,
+    FaultPlace, FieldList, GroupList, Model, Name, Part, ReadKind, TermList, component_count,
     coordinate_count,
 };
 use std::alloc::Global;
@@ -74,16 +77,17 @@ fn file_values<'a>(place: FaultPlace, file: &'a Table) -> Result<FileValues<'a>,
     Ok(FileValues { profile, name })
 }
 
-/// The tables of a file's groups, fermions, scalars and tables.
+/// The tables of a file's groups, fermions, scalars, tables and terms.
 #[derive(Drop)]
 struct PartTables<'a> {
     groups: Vec<&'a Table>,
     fermions: Vec<&'a Table>,
     scalars: Vec<&'a Table>,
     tables: Vec<&'a Table>,
+    terms: Vec<&'a Table>,
 }
 
-/// The tables of a file's parts. Those of terms aren't built yet.
+/// The tables of a file's parts.
 #[tactic(auto, using(crate::proofs::Firsts::first_before))]
 fn part_tables<'a>(
     alloc: Global,
@@ -91,31 +95,21 @@ fn part_tables<'a>(
     file: &'a Table,
 ) -> Result<PartTables<'a>, ReadError>
     ensures walked { Walked part_lists (value_places (key_place place 3) part_keys (table_view file.now))
-        (tables_at (codes "group") (table_view file.now), (tables_at (codes "fermion") (table_view file.now), (tables_at (codes "scalar") (table_view file.now), tables_at (codes "table") (table_view file.now)))) result }
+        (tables_at (codes "group") (table_view file.now), (tables_at (codes "fermion") (table_view file.now), (tables_at (codes "scalar") (table_view file.now), (tables_at (codes "table") (table_view file.now), tables_at (codes "term") (table_view file.now))))) result }
     ensures few { IfOk result (λ parts. ArePartsFew parts) }
 {
     let groups = tables_at(alloc, place.key(3), 4, file, "group")?;
     let fermions = tables_at(alloc, place.key(4), 24, file, "fermion")?;
     let scalars = tables_at(alloc, place.key(5), 12, file, "scalar")?;
     let tables = tables_at(alloc, place.key(6), 16, file, "table")?;
-    unbuilt_tables(place.key(7), file, "term")?;
+    let terms = tables_at(alloc, place.key(7), 64, file, "term")?;
     Ok(PartTables {
         groups,
         fermions,
         scalars,
         tables,
+        terms,
     })
-}
-
-/// Asks that a part doesn't have more components than a model may have.
-fn few_components(part: Part, limit: u32, count: u32) -> Result<(), ReadError>
-    ensures walked { Passes (over_limit limit count (place_of part 0 0)) result }
-    ensures few { IfOk result (λ _. count ≤ limit) }
-{
-    if count > limit {
-        return Err(ReadError::Fault(FaultPlace::new(part, 0).over(count as usize)));
-    }
-    Ok(())
 }
 
 /// The fermions that tables are, with no more components than a model may have.
@@ -137,7 +131,7 @@ fn limited_fermions(
 {
     let fermions = fermions_of(alloc, groups, names, tables)?;
     let count = component_count(groups.as_slice(), fermions.as_slice());
-    few_components(Part::Fermion, MOST_COMPONENTS, count)?;
+    few_in_all(Part::Fermion, MOST_COMPONENTS, count)?;
     Ok(fermions)
 }
 
@@ -160,27 +154,30 @@ fn limited_scalars(
 {
     let scalars = scalars_of(alloc, groups, names, tables)?;
     let count = coordinate_count(groups.as_slice(), scalars.as_slice());
-    few_components(Part::Scalar, MOST_COORDINATES, count)?;
+    few_in_all(Part::Scalar, MOST_COORDINATES, count)?;
     Ok(scalars)
 }
 
-/// The model with these tables of parts.
+/// The model with these tables of parts, as yet without terms, and the names of its parts.
 #[tactic(auto, using(crate::proofs::Firsts::first_before), unfolding(model_core::specs::Walk::part_places))]
-fn model_with(
+fn parts_with(
     alloc: Global,
     profile: u32,
     name: Name,
+    names: &mut Names,
     parts: &PartTables,
 ) -> Result<Model, ReadError>
-    requires { ArePartsFew parts.now }
+    requires few { ArePartsFew parts.now }
+    requires fresh { names.old ≡ [] }
     ensures walked { Walked (λ model. model) (places_of (part_lists parts.now)) (model_with profile name (part_lists parts.now)) result }
-    ensures valid { IfOk result (λ model. IsValid model) }
+    ensures names { IfOk result (λ model. names.new ≡ part_names model) }
+    ensures distinct { IfOk result (λ _. are_distinct names.new ≡ true) }
+    ensures valid { IfOk result (λ model. (has_valid_parts model && has_few_components model) ≡ true) }
 {
-    let mut names = Names::new(alloc);
-    let groups = groups_of(alloc, &mut names, parts.groups.as_slice())?;
-    let fermions = limited_fermions(alloc, &groups, &mut names, parts.fermions.as_slice())?;
-    let scalars = limited_scalars(alloc, &groups, &mut names, parts.scalars.as_slice())?;
-    let tables = tensors_of(alloc, &groups, &mut names, parts.tables.as_slice())?;
+    let groups = groups_of(alloc, names, parts.groups.as_slice())?;
+    let fermions = limited_fermions(alloc, &groups, names, parts.fermions.as_slice())?;
+    let scalars = limited_scalars(alloc, &groups, names, parts.scalars.as_slice())?;
+    let tables = tensors_of(alloc, &groups, names, parts.tables.as_slice())?;
     Ok(Model {
         profile,
         name,
@@ -188,11 +185,32 @@ fn model_with(
         fermions,
         scalars,
         tables,
+        terms: TermList::new(alloc),
     })
 }
 
+/// The model with these tables of parts and terms.
+#[tactic(auto, using(crate::proofs::Firsts::first_before, crate::proofs::TermsKept::terms_with))]
+fn model_with(
+    alloc: Global,
+    profile: u32,
+    name: Name,
+    parts: &PartTables,
+) -> Result<Model, ReadError>
+    requires { ArePartsFew parts.now }
+    ensures walked { Walked (λ model. model) (whole_places profile name (part_lists parts.now)) (whole_model profile name (part_lists parts.now)) result }
+    ensures valid { IfOk result (λ model. IsValid model) }
+    ensures terms { IfOk result (λ model. are_terms model model.terms ≡ true) }
+{
+    let mut names = Names::new(alloc);
+    let mut model = parts_with(alloc, profile, name, &mut names, parts)?;
+    let terms = terms_of(alloc, &model, &mut names, parts.terms.as_slice())?;
+    model.terms = terms;
+    Ok(model)
+}
+
 /// The model that a document names.
-#[tactic(auto, using(crate::proofs::Firsts::first_before), unfolding(model_core::specs::Walk::bad_places, model_core::specs::Document::model_of))]
+#[tactic(auto, using(crate::proofs::Firsts::first_before), unfolding(model_core::specs::Walk::bad_places, model_core::specs::Document::parts_of, model_core::specs::Reading::model_of))]
 fn model_of(alloc: Global, file: &Table) -> Result<Model, ReadError>
     ensures walked { Walked (λ model. model) (bad_places (table_view file.now)) (model_of (table_view file.now)) result }
     ensures valid { IfOk result (λ model. IsValid model) }
@@ -208,7 +226,7 @@ fn model_of(alloc: Global, file: &Table) -> Result<Model, ReadError>
 /// The model that the bytes of a file stand for, which is valid.
 ///
 /// The fault is `NotToml` at the file exactly where the bytes are no TOML document, and else the document's first bad place
-/// in the order of the walk: the file's own table, then groups, fermions, scalars and tables in file order.
+/// in the order of the walk: the file's own table, then groups, fermions, scalars, tables and terms in file order.
 #[tactic(auto, unfolding(model_core::specs::Reading::reading), using(crate::proofs::Readings::reading_of_walked))]
 pub fn read_model(alloc: Global, bytes: &[u8]) -> Result<Model, ReadError>
     ensures value { Gives (λ model. model) result (reading bytes.now) }

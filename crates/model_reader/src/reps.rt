@@ -136,7 +136,7 @@ fn singlets(alloc: Global, groups: &[Group]) -> Result<RepList, AllocError>
 }
 
 /// A field's representations: singlets where nothing is said.
-#[tactic(auto, using(crate::proofs::ValidParts::reps_fit))]
+#[tactic(auto, using(model_core::proofs::ValidParts::reps_fit))]
 pub fn reps_at(
     alloc: Global,
     place: FaultPlace,

@@ -15,7 +15,7 @@ use std::alloc::{AllocError, Global};
 use toml::Value;
 
 /// Whether each value is a text.
-fn are_texts(values: &[Value]) -> bool
+pub fn are_texts(values: &[Value]) -> bool
     ensures { result ≡ list_all is_text (map view values.now) }
 {
     for value in values {
@@ -27,7 +27,7 @@ fn are_texts(values: &[Value]) -> bool
 }
 
 /// The text that a value is: an empty one where it is none.
-fn text_of(value: &Value) -> &[u8]
+pub fn text_of(value: &Value) -> &[u8]
     ensures { result.now ≡ text_of (view value.now) }
 {
     match value.as_str() {

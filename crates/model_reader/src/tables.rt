@@ -4,13 +4,14 @@ ghost use Rattle.toml.specs.Data.{get_member};
 ghost use Rattle.toml.specs.Data as toml_data;
 ghost use Rattle.toml.specs.View.{view, table_view, array_view};
 ghost use Rattle.model_core.specs.Document.{tables_among, tables_of, value_or};
-ghost use Rattle.model_core.specs.Walk.{are_tables, tables_places, unbuilt_places, found_places};
+ghost use Rattle.model_core.specs.Fault.{place_of, over_limit};
+ghost use Rattle.model_core.specs.Walk.{are_tables, tables_places, found_places};
 ghost use Rattle.model_reader.specs.Tables.{table_views};
 ghost use Rattle.model_reader.specs.Walked.{Walked, Passes};
 
 use crate::error::{ReadError, refused};
 use crate::keys::value_at;
-use model_core::{FaultPlace, ReadKind};
+use model_core::{FaultPlace, Part, ReadKind};
 use std::alloc::{AllocError, Global};
 use toml::Table;
 use toml::value::Array;
@@ -76,18 +77,13 @@ pub fn tables_at<'a>(
     Ok(tables_among(alloc, array)?)
 }
 
-/// Asks that a key isn't there whose tables aren't built yet.
-pub fn unbuilt_tables(place: FaultPlace, file: &Table, key: &str) -> Result<(), ReadError>
-    ensures { Passes (found_places (unbuilt_places place) (get_member key.now (table_view file.now))) result }
+/// Asks that a part doesn't have more of something in all than a model may have.
+pub fn few_in_all(part: Part, limit: u32, count: u32) -> Result<(), ReadError>
+    ensures walked { Passes (over_limit limit count (place_of part 0 0)) result }
+    ensures few { IfOk result (λ _. count ≤ limit) }
 {
-    let Some(value) = value_at(file, key) else {
-        return Ok(());
-    };
-    let Some(array) = value.as_array() else {
-        return refused(place, ReadKind::WrongType);
-    };
-    if !are_tables(array) {
-        return refused(place, ReadKind::WrongType);
+    if count > limit {
+        return Err(ReadError::Fault(FaultPlace::new(part, 0).over(count as usize)));
     }
-    refused(place, ReadKind::Unbuilt)
+    Ok(())
 }

@@ -3,7 +3,8 @@ ghost use Rattle.std.specs.Prelude.{◌≡◌, ◌∷◌, ◌++◌, ◌≤◌, [
 ghost use Rattle.toml.specs.View.{table_view};
 ghost use Rattle.model_core.specs.Valid.{table_name, are_distinct, is_table, are_tables};
 ghost use Rattle.model_core.specs.Document.{table_of};
-ghost use Rattle.model_core.specs.Walk.{key_places, key_place, value_places, table_keys, tensor_places, tensors_places};
+ghost use Rattle.model_core.specs.Fault.{key_place};
+ghost use Rattle.model_core.specs.Walk.{key_places, value_places, table_keys, tensor_places, tensors_places};
 ghost use Rattle.model_reader.specs.Tables.{table_views};
 ghost use Rattle.model_reader.specs.TensorValues.{HasTensorValues};
 ghost use Rattle.model_reader.specs.Walked.{Walked, Passes};
@@ -99,7 +100,7 @@ fn tensor_of(
 }
 
 /// The tables of the part `table` that tables are, after names that were met.
-#[tactic(auto, using(crate::proofs::Firsts::first_before, crate::proofs::ValidParts::list_all_push), unfolding(model_core::specs::Walk::tensors_places))]
+#[tactic(auto, using(crate::proofs::Firsts::first_before, model_core::proofs::ValidParts::list_all_push), unfolding(model_core::specs::Walk::tensors_places))]
 pub fn tensors_of(
     alloc: Global,
     groups: &GroupList,

@@ -1,12 +1,11 @@
 //! The sum that a term's text is.
-ghost use Rattle.std.specs.Prelude.{◌≡◌, ℕ, List, ◌∷◌, [], ◌++◌, length, Err, MatchOption, true, false, IfOk, nat_lt};
+ghost use Rattle.std.specs.Prelude.{◌≡◌, ◌∷◌, [], ◌++◌, length, Err, MatchOption, true, false, IfOk, nat_lt};
 ghost use Rattle.std.specs.List.{flat_map};
 ghost use Rattle.model_core.specs.declared.sum.Token.TheVariants.{Word, Digits, Tilde, Open, Mark};
-ghost use Rattle.model_core.specs.declared.sum.WrittenMonomial.{WrittenMonomial};
-ghost use Rattle.model_core.specs.TermText.{denominator_tokens, literal_tokens, tilde_tokens, index_token, bracket_tokens, listed_labels, label_tokens, factor_tokens, monomial_tokens, first_sign, sign, spelling, is_whole, has_factors, IsSum};
+ghost use Rattle.model_core.specs.TermText.{denominator_tokens, literal_tokens, tilde_tokens, index_token, bracket_tokens, listed_labels, label_tokens, factor_tokens, monomial_tokens, first_sign, sign, spelling, is_whole, has_factors};
 ghost use Rattle.model_reader.specs.declared.term_text.Stop.TheVariants.{Left, NoMemory};
-ghost use Rattle.model_reader.specs.Grammar.{Start, AfterSign, AfterNumerator, AfterLiteral, AfterWord, AfterTilde, AfterOpen, AfterIndex, AfterBracket, AfterLeft, AfterLabel, AfterLabels, AfterFactor, AfterFactors, AfterMonomials};
-ghost use Rattle.model_reader.specs.Parsing.{begins_mark, begins_word, begins_digits, begins_tilde, begins_open, begins_sign, Reads, Parsed, IsRead, IsParsed, IsPlacedSum};
+ghost use Rattle.model_core.specs.TermGrammar.{Start, AfterSign, AfterNumerator, AfterLiteral, AfterWord, AfterTilde, AfterOpen, AfterIndex, AfterBracket, AfterLeft, AfterLabel, AfterLabels, AfterFactor, AfterFactors, AfterMonomials};
+ghost use Rattle.model_reader.specs.Parsing.{begins_mark, begins_word, begins_digits, begins_tilde, begins_open, begins_sign, Reads, Parsed, IsRead, ParsedAs, HasFewLabels};
 
 use crate::term_tokens::{start_after, tokens_of};
 use model_core::{
@@ -302,8 +301,8 @@ fn sum_of(alloc: Global, tokens: &[Token]) -> Result<Sum, Stop>
 
 /// The sum that a text is, or where it stops to be one.
 pub fn parse_sum(alloc: Global, text: &[u8]) -> Result<ParsedSum, AllocError>
-    ensures parsed { IfOk result (λ parsed. IsParsed text.now parsed) }
-    ensures placed { IfOk result (λ parsed. IsPlacedSum text.now parsed) }
+    ensures parsed { IfOk result (λ parsed. ParsedAs text.now parsed) }
+    ensures few { IfOk result (λ parsed. HasFewLabels text.now parsed) }
 {
     let tokens = tokens_of(alloc, text)?;
     match sum_of(alloc, tokens.as_slice()) {
@@ -312,9 +311,3 @@ pub fn parse_sum(alloc: Global, text: &[u8]) -> Result<ParsedSum, AllocError>
         Err(Stop::NoMemory) => Err(AllocError),
     }
 }
-
-/// A text is one sum at most.
-#[tactic(auto, using(crate::proofs::Sums::one_sum))]
-pub fn a_text_is_one_sum()
-    ensures { (text : List ℕ) (first second : List WrittenMonomial) → IsSum text first → IsSum text second → first ≡ second }
-{}

@@ -1,7 +1,7 @@
 //! The tokens of a term's text.
 ghost use Rattle.std.specs.Prelude.{◌≡◌, ◌+◌, ◌<◌, ◌^◌, ◌++◌, None, Some, IfOk, OnOk};
 ghost use Rattle.model_core.specs.TermText.{goes_on, lengthened, token_at, begun, opened, listed, ended, tokens};
-ghost use Rattle.model_reader.specs.Starts.{begins, start_after};
+ghost use Rattle.model_core.specs.TermGrammar.{begins, start_after};
 
 use model_core::{Span, Token, TokenList, is_word_byte};
 use std::alloc::{AllocError, Global};

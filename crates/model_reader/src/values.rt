@@ -5,9 +5,11 @@ ghost use Rattle.std.specs.Str.{bytes_eq};
 ghost use Rattle.toml.specs.Data.{integer, get_member};
 ghost use Rattle.toml.specs.View.{view, table_view};
 ghost use Rattle.frac128.specs.Rational.{eq_ℚ, zero_ℚ};
-ghost use Rattle.model_core.specs.Valid.{is_between, is_abelian, is_real_rep, are_distinct};
+ghost use Rattle.model_core.specs.Groups.{is_between, is_abelian};
+ghost use Rattle.model_core.specs.Valid.{are_distinct};
 ghost use Rattle.model_core.specs.Document.{text_of, number_of, fraction_of, truth_of, value_or};
-ghost use Rattle.model_core.specs.Walk.{integer_places, name_places, latex_places, dimension_places, fraction_places, charge_places, real_places, is_own_conjugate, found_places};
+ghost use Rattle.model_core.specs.Walk.{integer_places, name_places, latex_places, dimension_places, fraction_places, charge_places, real_places, found_places};
+ghost use Rattle.model_core.specs.Valid.{is_own_conjugate};
 ghost use Rattle.model_reader.specs.Walked.{Walked};
 
 use crate::error::{ReadError, refused};
@@ -15,8 +17,7 @@ use crate::keys::value_at;
 use crate::literal::{text_fraction, whole_fraction};
 use crate::names::Names;
 use frac128::Frac;
-use model_core::{FaultPlace, Field, Group, Latex, Name, ReadKind};
-use su_reps::Rep;
+use model_core::{FaultPlace, Field, Group, Latex, Name, ReadKind, is_own_conjugate};
 use toml::{Table, Value};
 
 /// A whole number from `low` to `high`, or the refusal of this kind.
@@ -116,7 +117,7 @@ pub fn name(place: FaultPlace, value: &Value) -> Result<Name, ReadError>
 }
 
 /// The name that a value is, which none of the earlier ones repeats. It is added to these.
-#[tactic(auto, using(crate::proofs::ValidParts::distinct_push))]
+#[tactic(auto, using(model_core::proofs::ValidParts::distinct_push, crate::proofs::NameLaws::name_after))]
 pub fn new_name(place: FaultPlace, names: &mut Names, value: &Value) -> Result<Name, ReadError>
     requires { are_distinct names.old ≡ true }
     ensures walked { Walked (λ name. name) (name_places names.old place (view value.now)) (text_of (view value.now)) result }
@@ -194,24 +195,6 @@ pub fn charge(place: FaultPlace, groups: &[Group], table: &Table) -> Result<Frac
         Some(value) => checked_charge(place, groups, value),
         None => Ok(Frac::zero()),
     }
-}
-
-/// Whether each representation is its own conjugate.
-fn are_real(reps: &[Rep]) -> bool
-    ensures { result ≡ list_all is_real_rep reps.now }
-{
-    reps.iter()
-        .all(|rep| matches!(rep, Rep::Singlet | Rep::Adjoint))
-}
-
-/// Whether a field is its own conjugate: without a charge, and in real representations.
-fn is_own_conjugate(field: &Field) -> bool
-    ensures { result ≡ is_own_conjugate field.now }
-{
-    if !are_real(field.reps.as_slice()) {
-        return false;
-    }
-    field.charge == Frac::zero()
 }
 
 /// Whether a scalar is real, as a value says.

@@ -1,6 +1,6 @@
 use Rattle.std.proofs.Common.{rules, arith}
 use Rattle.std.proofs.lemmas.Grind.{common_steps}
-use Rattle.model_reader.proofs.ValidParts.{list_all_push, entry_push}
+use Rattle.model_core.proofs.ValidParts.{list_all_push, entry_push}
 use Rattle.model_reader.proofs.entries.entries_of.Goals as goal
 
 pub loop-value-preserved : goal.loop-value-preserved

@@ -2,7 +2,7 @@ use Rattle.std.proofs.Common.{◌≡◌, true, length}
 use Rattle.std.specs.Prelude.{nat_lt}
 use Rattle.std.specs.List.{flat_map}
 use Rattle.model_core.specs.TermText.{factor_tokens}
-use Rattle.model_reader.specs.Grammar.{AfterLiteral, AfterFactor}
+use Rattle.model_core.specs.TermGrammar.{AfterLiteral, AfterFactor}
 use Rattle.model_reader.specs.Parsing.{Reads}
 use Rattle.model_reader.proofs.term_text.factors.Given as goal
 

@@ -1,7 +1,7 @@
 use Rattle.std.proofs.Common.{◌≡◌, true, length}
 use Rattle.std.specs.Prelude.{nat_lt}
 use Rattle.model_core.specs.TermText.{listed_labels}
-use Rattle.model_reader.specs.Grammar.{AfterLeft, AfterLabel}
+use Rattle.model_core.specs.TermGrammar.{AfterLeft, AfterLabel}
 use Rattle.model_reader.specs.Parsing.{Reads}
 use Rattle.model_reader.proofs.term_text.listed_labels.Given as goal
 

@@ -1,6 +1,6 @@
 use Rattle.std.proofs.Common.{◌≡◌, true, length}
 use Rattle.model_core.specs.TermText.{spelling, is_whole}
-use Rattle.model_reader.specs.Grammar.{Start, AfterFactors}
+use Rattle.model_core.specs.TermGrammar.{Start, AfterFactors}
 use Rattle.model_reader.specs.Parsing.{Reads}
 use Rattle.model_reader.proofs.term_text.monomials.Given as goal
 

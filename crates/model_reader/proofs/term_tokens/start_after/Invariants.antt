@@ -1,5 +1,5 @@
 use Rattle.std.proofs.Common.{◌≡◌, drop, None}
-use Rattle.model_reader.specs.Starts.{start_after}
+use Rattle.model_core.specs.TermGrammar.{start_after}
 use Rattle.model_reader.proofs.term_tokens.start_after.Given as goal
 
 -- the tokens that are left to pass over, in the bytes that are left
