@@ -1,0 +1,10 @@
+pub mod Tokens
+pub mod Candidates
+pub mod Assignments
+pub mod Texts
+pub mod Projectors
+pub mod LinkSteps
+pub mod Steps
+pub mod Multiples
+pub mod Parity
+pub mod Expansion

@@ -1,0 +1,17 @@
+//! The terms of a model become tensors: the Yukawa tensor, the scalar tensor, and the directions of the symbols.
+#![tactic(auto)]
+
+mod assignments;
+mod basis;
+mod candidates;
+mod directions;
+mod expansion;
+mod links;
+mod multiples;
+mod texts;
+mod token;
+mod values;
+
+pub use directions::{Direction, DirectionList};
+pub use expansion::{Tensors, expand};
+pub use token::{BlockName, Token};
