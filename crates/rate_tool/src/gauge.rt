@@ -6,7 +6,8 @@ ghost use Rattle.su_reps.specs.Operators.{doubled_index};
 ghost use Rattle.model_core.specs.declared.group.Group.{Group};
 ghost use Rattle.model_core.specs.Multiplet.{multiplicity, fermion_copies, scalar_copies, doubled_index_sum};
 ghost use Rattle.model_core.specs.Plain.{IsPlain};
-ghost use Rattle.model_core.specs.Valid.{is_abelian, is_field, are_groups, are_fields, are_scalars, IsValid};
+ghost use Rattle.model_core.specs.Groups.{is_abelian};
+ghost use Rattle.model_core.specs.Valid.{is_field, are_groups, are_fields, are_scalars, IsValid};
 ghost use Rattle.rate_tool.specs.Refused.{IsRefused};
 
 use crate::abelian::abelian_one;

@@ -1,7 +1,9 @@
 //! One-loop gauge coefficients: published values, and charges for which a sum is refused.
 use crate::gauge::gauge_one;
 use frac128::{Frac, Overflow};
-use model_core::{Field, FieldList, Group, GroupList, Model, Name, RepList, TableList, is_valid};
+use model_core::{
+    Field, FieldList, Group, GroupList, Model, Name, RepList, TableList, TermList, is_valid,
+};
 use std::alloc::Global;
 use std::process::Abort;
 use std::test::Fail;
@@ -56,6 +58,7 @@ fn empty_model(rt: &impl Abort, alloc: Global) -> Model {
         fermions: FieldList::new(alloc),
         scalars: FieldList::new(alloc),
         tables: TableList::new(alloc),
+        terms: TermList::new(alloc),
     }
 }
 

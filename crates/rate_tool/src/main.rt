@@ -7,6 +7,8 @@ ghost use Rattle.rate_tool.specs.Words.{texts};
 
 mod abelian;
 mod broken_keeper;
+#[cfg(test)]
+mod expand_tests;
 mod gate;
 mod gauge;
 #[cfg(test)]

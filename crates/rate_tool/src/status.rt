@@ -104,6 +104,11 @@ fn kind_name(kind: ReadKind) -> &'static [u8]
         ReadKind::SecondAbelian => b"SecondAbelian",
         ReadKind::BadRep => b"BadRep",
         ReadKind::BadRealScalar => b"BadRealScalar",
+        ReadKind::BadTermText => b"BadTermText",
+        ReadKind::UnknownField => b"UnknownField",
+        ReadKind::WrongSlots => b"WrongSlots",
+        ReadKind::LabelCount => b"LabelCount",
+        ReadKind::WrongContent => b"WrongContent",
         ReadKind::OverLimit => b"OverLimit",
         ReadKind::Unbuilt => b"Unbuilt",
     }

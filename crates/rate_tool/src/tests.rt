@@ -109,7 +109,7 @@ fn words_have_their_answers(rt: HostRuntime) -> Result<(), AllocError> {
 
 #[test]
 fn models_have_their_answers(rt: HostRuntime) -> Result<(), AllocError> {
-    let rows: [(&[u8], &[u8]); 8] = [
+    let rows: [(&[u8], &[u8]); 9] = [
         (
             b"profile = 1\nname = \"ym\"\ngroup = [{name=\"SU3\", n=3, coupling=\"g\"}]\nscalar = []\n",
             TEXT,
@@ -127,19 +127,23 @@ fn models_have_their_answers(rt: HostRuntime) -> Result<(), AllocError> {
             b"model QED\nloops 1\nbeta1 g = 4/3*g^3\n",
         ),
         (
-            b"profile = 1\nname = \"sqed\"\ngroup = [{name=\"U1\", n=1, coupling=\"g\"}]\nscalar = [{name=\"p\", charge=\"1\"}]\n",
+            b"profile = 1\nname = \"sqed\"\ngroup = [{name=\"U1\", n=1, coupling=\"g\"}]\nscalar = [{name=\"p\", charge=\"1\"}]\nterm = [{coupling=\"lam\", text=\"p~ p p~ p\"}]\n",
             b"model sqed\nloops 1\nbeta1 g = 1/3*g^3\n",
         ),
         (
-            b"profile = 1\nname = \"adj2\"\ngroup = [{name=\"SU2\", n=2, coupling=\"g\"}]\nscalar = [{name=\"Phi\", real=true, reps={SU2=\"adjoint\"}}]\n",
+            b"profile = 1\nname = \"maj\"\nfermion = [{name=\"N\"}]\nscalar = [{name=\"S\", real=true}]\nterm = [{coupling=\"y\", value=\"complex\", text=\"1/2 N N S\"}]\n",
+            b"model maj\nloops 1\n",
+        ),
+        (
+            b"profile = 1\nname = \"adj2\"\ngroup = [{name=\"SU2\", n=2, coupling=\"g\"}]\nscalar = [{name=\"Phi\", real=true, reps={SU2=\"adjoint\"}}]\nterm = [{coupling=\"lam\", text=\"1/4 Phi(a,b) Phi(b,a) Phi(c,d) Phi(d,c)\"}]\n",
             b"model adj2\nloops 1\nbeta1 g = -7*g^3\n",
         ),
         (
-            b"profile = 1\nname = \"SM3\"\ngroup = [{name=\"U1\", n=1, coupling=\"g1\"}, {name=\"SU2\", n=2, coupling=\"g2\"}, {name=\"SU3\", n=3, coupling=\"g3\"}]\nfermion = [{name=\"Q\", generations=3, charge=\"1/6\", reps={SU2=\"fund\", SU3=\"fund\"}}, {name=\"u\", generations=3, charge=\"-2/3\", reps={SU3=\"conj\"}}, {name=\"d\", generations=3, charge=\"1/3\", reps={SU3=\"conj\"}}, {name=\"L\", generations=3, charge=\"-1/2\", reps={SU2=\"fund\"}}, {name=\"e\", generations=3, charge=\"1\"}]\nscalar = [{name=\"H\", charge=\"1/2\", reps={SU2=\"fund\"}}]\n",
+            b"profile = 1\nname = \"SM3\"\ngroup = [{name=\"U1\", n=1, coupling=\"g1\"}, {name=\"SU2\", n=2, coupling=\"g2\"}, {name=\"SU3\", n=3, coupling=\"g3\"}]\nfermion = [{name=\"Q\", generations=3, charge=\"1/6\", reps={SU2=\"fund\", SU3=\"fund\"}}, {name=\"u\", generations=3, charge=\"-2/3\", reps={SU3=\"conj\"}}, {name=\"d\", generations=3, charge=\"1/3\", reps={SU3=\"conj\"}}, {name=\"L\", generations=3, charge=\"-1/2\", reps={SU2=\"fund\"}}, {name=\"e\", generations=3, charge=\"1\"}]\nscalar = [{name=\"H\", charge=\"1/2\", reps={SU2=\"fund\"}}]\nterm = [{coupling=\"yt\", text=\"Q[3](a,c) u[3](c) H(b) eps(a,b)\"}, {coupling=\"yb\", text=\"Q[3](a,c) d[3](c) H~(a)\"}, {coupling=\"yl\", text=\"L[3](a) e[3] H~(a)\"}, {coupling=\"lam\", text=\"H~(a) H(a) H~(b) H(b)\"}]\n",
             b"model SM3\nloops 1\nbeta1 g1 = 41/6*g1^3\nbeta1 g2 = -19/6*g2^3\nbeta1 g3 = -7*g3^3\n",
         ),
         (
-            b"profile = 1\nname = \"phi\"\nscalar = [{name=\"S\", real=true}]\n",
+            b"profile = 1\nname = \"phi\"\nscalar = [{name=\"S\", real=true}]\nterm = [{coupling=\"lam\", text=\"1/24 S S S S\"}]\n",
             b"model phi\nloops 1\n",
         ),
     ];
@@ -151,7 +155,7 @@ fn models_have_their_answers(rt: HostRuntime) -> Result<(), AllocError> {
 
 #[test]
 fn refused_files_have_their_lines(rt: HostRuntime) -> Result<(), AllocError> {
-    let rows: [(&[u8], u8, &[u8]); 7] = [
+    let rows: [(&[u8], u8, &[u8]); 9] = [
         (b"", 5, NO_PROFILE),
         (b"profile = ", 5, NOT_TOML),
         (b"\xff", 5, NOT_TOML),
@@ -166,9 +170,20 @@ fn refused_files_have_their_lines(rt: HostRuntime) -> Result<(), AllocError> {
             b"malformed OverLimit file 0 3 5\n",
         ),
         (
-            b"profile = 1\nname = \"sqed\"\ngroup = [{name=\"U1\", n=1, coupling=\"g\"}]\nscalar = [{name=\"p\", charge=\"1\"}]\nterm = [{coupling=\"lam\", text=\"p~ p p~ p\"}]\n",
+            b"profile = 1\nname = \"sqed\"\ngroup = [{name=\"U1\", n=1, coupling=\"g\"}]\nscalar = [{name=\"p\", charge=\"1\"}]\nterm = [{coupling=\"lam\", text=\"p~ q p~ p\"}]\n",
             5,
-            b"malformed Unbuilt file 0 7 0\n",
+            b"malformed UnknownField term 1 3 0\n",
+        ),
+        // The literal of the second term's text has three bytes, and a space follows.
+        (
+            b"profile = 1\nname = \"phi\"\nscalar = [{name=\"S\", real=true}]\nterm = [{coupling=\"lam\", text=\"1/24 S S S S\"}, {coupling=\"h\", text=\"1/6 S S S\"}, {coupling=\"m2\", text=\"1/2 S S\"}]\n",
+            5,
+            b"malformed Unbuilt term 2 4 0\n",
+        ),
+        (
+            b"profile = 1\nname = \"maj\"\nfermion = [{name=\"N\"}]\nscalar = [{name=\"S\", real=true}]\nterm = [{coupling=\"y1\", value=\"complex\", text=\"N N S\"}, {coupling=\"y2\", value=\"complex\", text=\"N N S\"}, {coupling=\"y3\", text=\"N N S\"}]\n",
+            5,
+            b"malformed OverLimit term 3 0 5\n",
         ),
         // Of four squared charges with denominators of 12 digits the first three have a sum, and the fourth has none with it.
         (
