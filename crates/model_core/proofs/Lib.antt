@@ -3,6 +3,7 @@ pub mod ComponentListLaws
 pub mod ContentLaws
 pub mod CoordinateLaws
 pub mod CountLaws
+pub mod Dimensions
 pub mod DirectionLaws
 pub mod FactorFits
 pub mod FactorLaws

@@ -25,3 +25,7 @@ pub mod MonomialValue
 pub mod TermTensor
 pub mod Directions
 pub mod ComponentLists
+pub mod Generators
+pub mod Invariance
+pub mod Anomaly
+pub mod GaugeTwoLoop

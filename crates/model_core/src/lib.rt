@@ -11,11 +11,13 @@ mod fault;
 mod field;
 mod flavour;
 mod format;
+mod generator;
 mod group;
 mod inline;
 mod laws;
 mod leg;
 mod model;
+mod multiplets;
 mod name;
 mod referent;
 mod sum;
@@ -26,42 +28,108 @@ mod term_rules;
 mod tests;
 mod valid;
 
-pub use block::{
-    block_directions, first_column, first_overfull, has_mirrored_blocks, have_few_directions,
-    symbol_count, term_blocks,
-};
-pub use component::{
-    component_count, coordinate_count, fermion_count, fermion_leg, partner, scalar_count,
-    scalar_leg,
-};
-pub use component_lists::{FieldComponent, FieldComponentList, fermion_list, scalar_list};
-pub use content::{
-    Content, FieldToken, FieldUse, FieldUseList, LabelValue, LabelValueList, LabelledSlot,
-    LabelledSlotList, SymbolBlock, SymbolBlockList, block_of, conjugate_content, content_at,
-    first_uses, generation_at, has_content, kind_of, same_block, uses,
-};
-pub use factors::{
-    are_factors, are_joined, eps_fits, joins_one_group, joins_two, labelled_slots, labels_of,
-    slot_count,
-};
-pub use fault::{FaultPlace, Part, ReadFault, ReadKind};
-pub use field::{Field, FieldList, RepList};
-pub use flavour::{flavour_size, has_flavour, have_sizes, monomials_have_flavour};
+pub use block::block_directions;
+pub use block::first_column;
+pub use block::first_overfull;
+pub use block::has_mirrored_blocks;
+pub use block::have_few_directions;
+pub use block::symbol_count;
+pub use block::term_blocks;
+pub use component::component_count;
+pub use component::coordinate_count;
+pub use component::fermion_count;
+pub use component::fermion_leg;
+pub use component::partner;
+pub use component::scalar_count;
+pub use component::scalar_leg;
+pub use component_lists::FieldComponent;
+pub use component_lists::FieldComponentList;
+pub use component_lists::fermion_list;
+pub use component_lists::scalar_list;
+pub use content::Content;
+pub use content::FieldToken;
+pub use content::FieldUse;
+pub use content::FieldUseList;
+pub use content::LabelValue;
+pub use content::LabelValueList;
+pub use content::LabelledSlot;
+pub use content::LabelledSlotList;
+pub use content::SymbolBlock;
+pub use content::SymbolBlockList;
+pub use content::block_of;
+pub use content::conjugate_content;
+pub use content::content_at;
+pub use content::first_uses;
+pub use content::generation_at;
+pub use content::has_content;
+pub use content::kind_of;
+pub use content::same_block;
+pub use content::uses;
+pub use factors::are_factors;
+pub use factors::are_joined;
+pub use factors::eps_fits;
+pub use factors::joins_one_group;
+pub use factors::joins_two;
+pub use factors::labelled_slots;
+pub use factors::labels_of;
+pub use factors::slot_count;
+pub use fault::FaultPlace;
+pub use fault::Part;
+pub use fault::ReadFault;
+pub use fault::ReadKind;
+pub use field::Field;
+pub use field::FieldList;
+pub use field::RepList;
+pub use flavour::flavour_size;
+pub use flavour::has_flavour;
+pub use flavour::have_sizes;
+pub use flavour::monomials_have_flavour;
 pub use format::Format;
-pub use group::{Group, GroupList};
+pub use generator::Generator;
+pub use group::Group;
+pub use group::GroupList;
 pub use inline::InlineBytes;
 pub use laws::the_grammar_of_terms;
-pub use leg::{Leg, Slots};
+pub use leg::Leg;
+pub use leg::Slots;
 pub use model::Model;
-pub use name::{BadName, Latex, Name, NameList, is_word_byte};
-pub use referent::{Referent, referent_of};
-pub use sum::{
-    Bracket, Index, Span, SpanList, Sum, Token, TokenList, WrittenFactor, WrittenFactorList,
-    WrittenLiteral, WrittenMonomial,
-};
-pub use table::{Entry, EntryList, Table, TableList};
-pub use term::{
-    Factor, FactorList, Generation, Monomial, MonomialList, Shape, Term, TermKind, TermList,
-};
+pub use multiplets::fermion_index;
+pub use multiplets::field_index;
+pub use multiplets::field_size;
+pub use multiplets::multiplicity;
+pub use name::BadName;
+pub use name::Latex;
+pub use name::Name;
+pub use name::NameList;
+pub use name::is_word_byte;
+pub use referent::Referent;
+pub use referent::referent_of;
+pub use sum::Bracket;
+pub use sum::Index;
+pub use sum::Span;
+pub use sum::SpanList;
+pub use sum::Sum;
+pub use sum::Token;
+pub use sum::TokenList;
+pub use sum::WrittenFactor;
+pub use sum::WrittenFactorList;
+pub use sum::WrittenLiteral;
+pub use sum::WrittenMonomial;
+pub use table::Entry;
+pub use table::EntryList;
+pub use table::Table;
+pub use table::TableList;
+pub use term::Factor;
+pub use term::FactorList;
+pub use term::Generation;
+pub use term::Monomial;
+pub use term::MonomialList;
+pub use term::Shape;
+pub use term::Term;
+pub use term::TermKind;
+pub use term::TermList;
 pub use term_rules::symbols_of;
-pub use valid::{has_entry_at, is_own_conjugate, is_valid, slot_size};
+pub use valid::has_entry_at;
+pub use valid::is_own_conjugate;
+pub use valid::is_valid;
+pub use valid::slot_size;

@@ -176,6 +176,15 @@ impl Latex {
         Ok(Latex { text: kept })
     }
 
+    /// The same text.
+    pub fn copy(&self) -> Latex
+        ensures { result ≡ self.now }
+    {
+        Latex {
+            text: self.text.copy(),
+        }
+    }
+
     /// The text.
     pub fn as_bytes(&self) -> &[u8]
         ensures value { result.now ≡ self.now }

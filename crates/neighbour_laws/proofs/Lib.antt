@@ -1,0 +1,9 @@
+pub mod ActionSums
+pub mod Failures
+pub mod GroupAlgebra
+pub mod LegAlgebra
+pub mod LegBrackets
+pub mod ListAlgebra
+pub mod Members
+pub mod Neighbours
+pub mod TupleProducts
