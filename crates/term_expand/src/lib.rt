@@ -12,6 +12,10 @@ mod texts;
 mod token;
 mod values;
 
+pub use assignments::copied;
 pub use directions::{Direction, DirectionList};
 pub use expansion::{Tensors, expand};
+pub use links::push_link;
+pub use multiples::conjugate;
+pub use texts::no_symbols;
 pub use token::{BlockName, Token};

@@ -137,7 +137,12 @@ fn projector_at_places(
 }
 
 /// Adds a link, unless its value is 0.
-fn push_link(links: &mut LinkList, from: usize, to: usize, value: Frac) -> Result<(), AllocError>
+pub fn push_link(
+    links: &mut LinkList,
+    from: usize,
+    to: usize,
+    value: Frac,
+) -> Result<(), AllocError>
     requires from { from < 2 ^ 32 }
     requires to { to < 2 ^ 32 }
     requires after { IsAfter links.old (record { from = from; to = to; value = value }) }

@@ -1,0 +1,16 @@
+pub mod ActionRuns
+pub mod ActionWalks
+pub mod Changes
+pub mod Components
+pub mod Differences
+pub mod FirstFailures
+pub mod FirstKeys
+pub mod Gathers
+pub mod GeneratorSteps
+pub mod Hermiticity
+pub mod KeyLists
+pub mod MatrixLinks
+pub mod NearGenerators
+pub mod TermDirections
+pub mod TermRuns
+pub mod Walks

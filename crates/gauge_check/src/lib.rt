@@ -1,0 +1,18 @@
+//! Checks of the terms of a model: gauge invariance and hermiticity.
+#![tactic(auto)]
+
+mod action;
+mod check;
+mod component;
+mod difference;
+mod fault;
+mod generators;
+mod links;
+mod parts;
+
+pub use check::check_terms;
+pub use component::{Component, component_at};
+pub use fault::{CheckError, TermFault};
+
+#[cfg(test)]
+mod tests;
