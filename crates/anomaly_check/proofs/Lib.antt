@@ -1,0 +1,9 @@
+pub mod AnswerLaws
+pub mod Coefficients
+pub mod CopySums
+pub mod CubeSums
+pub mod DenseTraces
+pub mod FieldNames
+pub mod OnGroup
+pub mod ShareSums
+pub mod TupleSums
