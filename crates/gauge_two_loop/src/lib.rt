@@ -1,0 +1,16 @@
+//! The beta functions of gauge couplings at one loop and at two.
+#![tactic(auto)]
+
+mod abelian;
+mod casimirs;
+mod gauge;
+#[cfg(test)]
+mod gauge_tests;
+mod pieces;
+mod two_loop;
+#[cfg(test)]
+mod two_loop_tests;
+mod yukawa;
+
+pub use gauge::gauge_one;
+pub use two_loop::{PolyList, gauge_two};
