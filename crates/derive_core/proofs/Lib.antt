@@ -1,0 +1,5 @@
+pub mod Derives
+pub mod Enumerated
+pub mod Refusals
+pub mod SecondLines
+pub mod TargetLists

@@ -1,0 +1,13 @@
+//! What is derived from a model file: its beta functions, or the first thing for which it is refused.
+#![tactic(auto)]
+
+mod accept;
+mod betas;
+mod fault;
+mod gauge_lines;
+mod pipeline;
+mod targets;
+
+pub use betas::{Betas, Checked, Line, LineList, Target, TargetList, TokenNames};
+pub use fault::DeriveFault;
+pub use pipeline::{check, derive};
