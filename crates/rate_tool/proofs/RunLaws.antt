@@ -4,12 +4,13 @@ use Rattle.std.specs.Prelude.{◌⊎◌, nat_lt}
 use Rattle.std.specs.Option.{IfSome}
 use Rattle.std.proofs.lemmas.List.{append-nil}
 use Rattle.std.proofs.lemmas.Bool.Decides.{nat_tests}
-use Rattle.model_core.specs.declared.fault.ReadFault.{ReadFault}
+use Rattle.derive_core.specs.declared.fault.DeriveFault.{DeriveFault}
+use Rattle.derive_core.specs.declared.fault.DeriveFault.TheVariants as fault
+use Rattle.derive_core.specs.Derivation.{Overflows}
 use Rattle.rate_tool.specs.declared.words.Command.{Command}
 use Rattle.rate_tool.specs.declared.status.Status.{Status}
 use Rattle.rate_tool.specs.declared.status.Status.TheVariants as status
 use Rattle.rate_tool.specs.Stream.{Rose}
-use Rattle.rate_tool.specs.Lines.{Overflows}
 use Rattle.rate_tool.specs.Run.{limit, answer_to, status_of, status_for, IsOverflow, WasRead, WasTooLong}
 use Rattle.rate_tool.specs.Steps.{Streams, FileEnds}
 
@@ -25,7 +26,7 @@ file_is (Some ys) bytes file read = sym (read.gave ∙ ap (λ t. file ++ t) read
 not_long : (n : ℕ) → n ≤ limit → nat_lt limit n ≡ false
 not_long n short = grind (arith, nat_tests)
 
-answered : (command : Command) (left' : Option (List ℕ)) (bytes file : List ℕ) (answer : Result (List ℕ) ReadFault) → WasRead (Some bytes) left' file → answer_to command file ≡ answer
+answered : (command : Command) (left' : Option (List ℕ)) (bytes file : List ℕ) (answer : Result (List ℕ) DeriveFault) → WasRead (Some bytes) left' file → answer_to command file ≡ answer
     → status_of answer ≡ status_for (Some command) bytes
 answered command left' bytes file answer read answers =
     ap status_of (sym answers)
@@ -48,8 +49,12 @@ ends command s bytes status.NoMemory told how quiet sure = inr (inl refl)
 ends command s bytes status.Usage told how quiet sure = absurd how
 ends command s bytes status.ReadFault told how quiet sure = absurd (quiet how)
 ends command s bytes status.TooLong told how quiet sure = inl (too_long command s.left' bytes (subst (λ l. WasTooLong l s.left') told how.0))
-ends command s bytes (status.Malformed fault) told how quiet sure =
-    inl (answered command s.left' bytes how.file (Err fault) (subst (λ l. WasRead l s.left' how.file) told how.read) how.answers)
+ends command s bytes (status.Malformed bad) told how quiet sure =
+    inl (answered command s.left' bytes how.file (Err (fault.Read bad)) (subst (λ l. WasRead l s.left' how.file) told how.read) how.answers)
+ends command s bytes (status.BadTerm bad) told how quiet sure =
+    inl (answered command s.left' bytes how.file (Err (fault.Term bad)) (subst (λ l. WasRead l s.left' how.file) told how.read) how.answers)
+ends command s bytes (status.Anomalous bad) told how quiet sure =
+    inl (answered command s.left' bytes how.file (Err (fault.Anomalous bad)) (subst (λ l. WasRead l s.left' how.file) told how.read) how.answers)
 ends command s bytes (status.Overflow pair) told how quiet sure =
     inr (inr (subst (λ b. Overflows b pair) (file_is s.left' bytes how.file (subst (λ l. WasRead l s.left' how.file) told how.read)) how.overflows))
 ends command s bytes status.WriteFault told how quiet sure = absurd (sure how.rose)

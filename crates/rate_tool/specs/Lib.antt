@@ -2,9 +2,7 @@ pub mod Stream
 pub mod Memory
 pub mod Register
 pub mod Words
-pub mod Refused
-pub mod Faults
-pub mod Lines
+pub mod ComponentText
 pub mod Text
 pub mod StatusLine
 pub mod Run

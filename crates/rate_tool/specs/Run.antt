@@ -1,14 +1,14 @@
 -- What a run answers, and what it reads and writes.
 use Rattle.std.specs.Prelude.{◌≡◌, ℕ, ◌≤◌, ◌<◌, nat_lt, if◌then◌else◌, ⊤, List, length, Option, Some, None, Result, Ok, Err}
 use Rattle.frac128.specs.declared.frac.Overflow.{Overflow}
-use Rattle.model_core.specs.declared.fault.ReadFault.{ReadFault}
+use Rattle.derive_core.specs.Derivation.{result_map, derivation, checked, Overflows}
+use Rattle.derive_core.specs.declared.fault.DeriveFault.{DeriveFault}
+use Rattle.derive_core.specs.declared.fault.DeriveFault.TheVariants as fault
 use Rattle.rate_tool.specs.Stream.{Gave, IsEmptied, Took, TookFront}
 use Rattle.rate_tool.specs.Words.{command_of}
-use Rattle.rate_tool.specs.Lines.{derivation, Overflows}
-use Rattle.rate_tool.specs.Text.{first_text}
-use Rattle.rate_tool.specs.declared.lines.FirstLines.{FirstLines}
+use Rattle.rate_tool.specs.Text.{betas_text, accepted_text}
 use Rattle.rate_tool.specs.declared.words.Command.{Command}
-use Rattle.rate_tool.specs.declared.words.Command.TheVariants.{Derive}
+use Rattle.rate_tool.specs.declared.words.Command.TheVariants.{Derive, Check}
 use Rattle.rate_tool.specs.declared.status.Status.{Status}
 use Rattle.rate_tool.specs.declared.status.Status.TheVariants as status
 
@@ -16,20 +16,20 @@ use Rattle.rate_tool.specs.declared.status.Status.TheVariants as status
 abbrev pub limit : ℕ
 limit = 1048576
 
--- the text of what was derived, or the fault
-abbrev pub printed : Result FirstLines ReadFault → Result (List ℕ) ReadFault
-printed (Ok lines) = Ok (first_text lines)
-printed (Err fault) = Err fault
-
--- What a command answers to a file: the bytes that it writes, or the file's first bad place. The number of workers doesn't matter.
-abbrev pub answer_to : Command → List ℕ → Result (List ℕ) ReadFault
-answer_to (Derive workers) file = printed (derivation file)
+-- What a command answers to a file: the bytes that it writes, or why the file is refused. The number of workers doesn't matter.
+abbrev pub answer_to : Command → List ℕ → Result (List ℕ) DeriveFault
+answer_to (Derive loops workers) file = result_map betas_text (derivation loops file)
+answer_to Check file = result_map accepted_text (checked file)
 
 -- ---- the status that is due
 
-abbrev pub status_of : Result (List ℕ) ReadFault → Status
+abbrev pub status_of : Result (List ℕ) DeriveFault → Status
 status_of (Ok text) = status.Done
-status_of (Err fault) = status.Malformed fault
+status_of (Err (fault.Read bad)) = status.Malformed bad
+status_of (Err (fault.Term bad)) = status.BadTerm bad
+status_of (Err (fault.Anomalous bad)) = status.Anomalous bad
+status_of (Err (fault.Overflow pair)) = status.Overflow pair
+status_of (Err fault.NoMemory) = status.NoMemory
 
 -- the status of a command over a source's bytes
 abbrev pub status_for : Option Command → List ℕ → Status
@@ -40,8 +40,15 @@ status_for (Some command) bytes = if nat_lt limit (length bytes) then status.Too
 abbrev pub due_status : List (List ℕ) → List ℕ → Status
 due_status words bytes = status_for (command_of words) bytes
 
--- The status is the one that is due, but for want of memory, a failed read, or a failed write or a refused sum or product
--- in place of `Done`.
+-- the statuses of a file that stands for a model
+abbrev pub IsOfModel : Status → Type 0
+IsOfModel status.Done = ⊤
+IsOfModel (status.BadTerm bad) = ⊤
+IsOfModel (status.Anomalous bad) = ⊤
+IsOfModel _ = ⊥
+
+-- The status is the one that is due, but for want of memory, a failed read, a failed write in place of `Done`, or a refused
+-- sum or product where the file stands for a model.
 abbrev pub IsDue : Status → Status → Type 0
 IsDue due status.NoMemory = ⊤
 IsDue due status.ReadFault = ⊤
@@ -49,8 +56,10 @@ IsDue due status.WriteFault = due ≡ status.Done
 IsDue due status.Done = due ≡ status.Done
 IsDue due status.Usage = due ≡ status.Usage
 IsDue due status.TooLong = due ≡ status.TooLong
-IsDue due (status.Malformed fault) = due ≡ status.Malformed fault
-IsDue due (status.Overflow pair) = due ≡ status.Done
+IsDue due (status.Malformed bad) = due ≡ status.Malformed bad
+IsDue due (status.BadTerm bad) = due ≡ status.BadTerm bad
+IsDue due (status.Anomalous bad) = due ≡ status.Anomalous bad
+IsDue due (status.Overflow pair) = IsOfModel due
 
 -- The status says that two fractions are refused, of a model that these bytes stand for.
 abbrev pub IsOverflow : List ℕ → Status → Type 0
@@ -72,7 +81,7 @@ pub record WasTooLong (left left' : Option (List ℕ)) : Type 0 where
   pub long : limit < length bytes
 
 -- The words are a command, a file was read whole, and this is what the command answers to it.
-pub record HasAnswer (words : List (List ℕ)) (left left' : Option (List ℕ)) (answer : Result (List ℕ) ReadFault) : Type 0 where
+pub record HasAnswer (words : List (List ℕ)) (left left' : Option (List ℕ)) (answer : Result (List ℕ) DeriveFault) : Type 0 where
   pub command : Command
   pub asked : command_of words ≡ Some command
   pub file : List ℕ

@@ -2,9 +2,10 @@
 use Rattle.std.specs.Prelude.{◌≡◌, ℕ, ◌≤◌, List, ◌++◌, length, Option, Result, Ok, Err, Vec}
 use Rattle.std.specs.declared.alloc.Global.{Global}
 use Rattle.frac128.specs.declared.frac.Overflow.{Overflow}
-use Rattle.model_core.specs.declared.fault.ReadFault.{ReadFault}
+use Rattle.derive_core.specs.declared.fault.DeriveFault.{DeriveFault}
+use Rattle.derive_core.specs.declared.fault.DeriveFault.TheVariants as fault
+use Rattle.derive_core.specs.Derivation.{Overflows}
 use Rattle.rate_tool.specs.Stream.{Rose, Gave, IsEmptied, Took, TookFront}
-use Rattle.rate_tool.specs.Lines.{Overflows}
 use Rattle.rate_tool.specs.Run.{answer_to, WasRead, WasTooLong}
 use Rattle.rate_tool.specs.declared.words.Command.{Command}
 use Rattle.rate_tool.specs.declared.run.Stop.{Stop}
@@ -47,7 +48,7 @@ ReadEnds left left' reads reads' (Err stop.ReadFault) = Rose reads reads'
 ReadEnds left left' reads reads' (Err stop.TooLong) = WasTooLong left left' × (reads' ≡ reads)
 
 -- a file was read whole, with no fault, and this is what the command answers to it
-pub record Answers (command : Command) (s : Streams) (answer : Result (List ℕ) ReadFault) : Type 0 where
+pub record Answers (command : Command) (s : Streams) (answer : Result (List ℕ) DeriveFault) : Type 0 where
   pub file : List ℕ
   pub read : WasRead s.left s.left' file
   pub counted : s.reads' ≡ s.reads
@@ -81,6 +82,8 @@ FileEnds command s status.NoMemory = s.reads' ≡ s.reads
 FileEnds command s status.Usage = ⊥
 FileEnds command s status.ReadFault = Rose s.reads s.reads'
 FileEnds command s status.TooLong = WasTooLong s.left s.left' × (s.reads' ≡ s.reads)
-FileEnds command s (status.Malformed fault) = Answers command s (Err fault)
+FileEnds command s (status.Malformed bad) = Answers command s (Err (fault.Read bad))
+FileEnds command s (status.BadTerm bad) = Answers command s (Err (fault.Term bad))
+FileEnds command s (status.Anomalous bad) = Answers command s (Err (fault.Anomalous bad))
 FileEnds command s (status.Overflow pair) = ReadsOverflow s pair
 FileEnds command s status.WriteFault = WritesFront command s

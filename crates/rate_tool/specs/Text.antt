@@ -1,41 +1,104 @@
--- The printed text of derived lines.
-use Rattle.std.specs.Prelude.{ℕ, ◌==◌, nat_lt, ◌&&◌, if◌then◌else◌, ℤ, pos, negsuc, unsigned_abs, List, [], ◌++◌, codes, decimal}
+-- The printed text of beta functions.
+use Rattle.std.specs.Prelude.{ℕ, ◌==◌, nat_lt, ◌&&◌, if◌then◌else◌, ℤ, pos, negsuc, unsigned_abs, List, [], ◌∷◌, ◌++◌, slice_get, Option, Some, None, codes, decimal}
 use Rattle.std.specs.List.{flat_map}
 use Rattle.frac128.specs.Rational.{ℚ}
-use Rattle.rate_tool.specs.declared.lines.FirstLine.{FirstLine}
-use Rattle.rate_tool.specs.declared.lines.FirstLines.{FirstLines}
+use Rattle.beta_poly.specs.declared.symbol.Symbol.{Symbol}
+use Rattle.beta_poly.specs.Monomial.{Powers, Monomial}
+use Rattle.beta_poly.specs.Polynomial.{Terms}
+use Rattle.derive_core.specs.declared.betas.Target.{Target}
+use Rattle.derive_core.specs.declared.betas.Line.{Line}
+use Rattle.derive_core.specs.declared.betas.Line.TheVariants.{Beta, NotSpanned, Generated}
+use Rattle.derive_core.specs.declared.betas.Betas.{Betas}
+use Rattle.derive_core.specs.declared.betas.Checked.{Checked}
+use Rattle.rate_tool.specs.ComponentText.{component_text}
 
--- the sign of a polynomial's first term: `-` where it is negative
-abbrev pub sign_text : ℤ → List ℕ
-sign_text (pos n) = []
-sign_text (negsuc n) = codes "-"
+-- ---- symbols
+
+-- `[i,j]`, where the coupling is a matrix
+abbrev pub entry_text : ℕ → ℕ → List ℕ
+entry_text row column = if row == 0 then [] else codes "[" ++ decimal row ++ codes "," ++ decimal column ++ codes "]"
+
+abbrev pub target_text : Target → List ℕ
+target_text target = target.name ++ entry_text target.row target.column
+
+-- the symbol with this id, without its conjugation
+abbrev pub target_or_none : Option Target → List ℕ
+target_or_none (Some target) = target_text target
+target_or_none None = []
+
+abbrev pub name_text : List Target → ℕ → List ℕ
+name_text targets id = target_or_none (slice_get targets id)
+
+-- a symbol; a conjugate is `conj(symbol)`
+abbrev pub symbol_text : List Target → Symbol → List ℕ
+symbol_text targets s = if s.conj then codes "conj(" ++ name_text targets s.id ++ codes ")" else name_text targets s.id
+
+-- `^k`, where the power k is at least 2
+abbrev pub power_text : ℕ → List ℕ
+power_text k = if nat_lt k 2 then [] else codes "^" ++ decimal k
+
+abbrev pub factor_text : List Target → Symbol × ℕ → List ℕ
+factor_text targets power = symbol_text targets power.0 ++ power_text power.1
+
+-- one factor more
+abbrev pub next_factor_text : List Target → Symbol × ℕ → List ℕ
+next_factor_text targets power = codes "*" ++ factor_text targets power
+
+-- ---- polynomials
 
 -- a positive fraction: `p`, or `p/q`
 abbrev pub ratio_text : ℕ → ℕ → List ℕ
 ratio_text num den = if den == 1 then decimal num else decimal num ++ codes "/" ++ decimal den
 
--- a factor: the symbol, with `^k` where its power k is at least 2
-abbrev pub factor_text : List ℕ → ℕ → List ℕ
-factor_text symbol power = if nat_lt power 2 then symbol else symbol ++ codes "^" ++ decimal power
-
 -- the size of a coefficient with the `*` behind it, left out where it is 1
 abbrev pub size_text : ℕ → ℕ → List ℕ
 size_text num den = if num == 1 && den == 1 then [] else ratio_text num den ++ codes "*"
 
--- a polynomial of one term: `0`, or its sign, its size and its factors
-abbrev pub single_text : ℚ → List ℕ → List ℕ
-single_text value factors =
-    if unsigned_abs value.num == 0 then codes "0"
-    else sign_text value.num ++ size_text (unsigned_abs value.num) value.den ++ factors
+-- a term without its sign: the size of its coefficient and its factors, joined by `*`
+abbrev pub unsigned_text : List Target → ℚ → Powers → List ℕ
+unsigned_text targets c [] = ratio_text (unsigned_abs c.num) c.den
+unsigned_text targets c (power ∷ powers) =
+    size_text (unsigned_abs c.num) c.den ++ factor_text targets power ++ flat_map (next_factor_text targets) powers
 
--- the line of a gauge coupling, whose beta function at one loop is a multiple of the coupling's cube
-abbrev pub line_text : FirstLine → List ℕ
-line_text line = codes "beta1 " ++ line.coupling ++ codes " = " ++ single_text line.value (factor_text line.coupling 3) ++ codes "\n"
+-- the sign of a first term, `-` where it is negative, and that of a later one
+abbrev pub sign_text : ℤ → List ℕ
+sign_text (pos n) = []
+sign_text (negsuc n) = codes "-"
+
+abbrev pub joint_text : ℤ → List ℕ
+joint_text (pos n) = codes " + "
+joint_text (negsuc n) = codes " - "
+
+abbrev pub first_term_text : List Target → Monomial × ℚ → List ℕ
+first_term_text targets e = sign_text e.1.num ++ unsigned_text targets e.1 e.0.0
+
+abbrev pub next_term_text : List Target → Monomial × ℚ → List ℕ
+next_term_text targets e = joint_text e.1.num ++ unsigned_text targets e.1 e.0.0
+
+-- a polynomial's terms in their order, or `0`
+abbrev pub terms_text : List Target → Terms → List ℕ
+terms_text targets [] = codes "0"
+terms_text targets (e ∷ es) = first_term_text targets e ++ flat_map (next_term_text targets) es
+
+-- ---- lines
+
+-- `betaN SYMBOL = POLY`, `open TOKENS at COMPONENT`, `generated TOKENS at COMPONENT = POLY`
+abbrev pub line_text : List Target → Line → List ℕ
+line_text targets (Beta symbol loops value) =
+    codes "beta" ++ decimal loops ++ codes " " ++ name_text targets symbol ++ codes " = " ++ terms_text targets value.0 ++ codes "\n"
+line_text targets (NotSpanned block component) =
+    codes "open " ++ component_text block ++ codes " at " ++ component_text component ++ codes "\n"
+line_text targets (Generated block component value) =
+    codes "generated " ++ component_text block ++ codes " at " ++ component_text component ++ codes " = " ++ terms_text targets value.0 ++ codes "\n"
 
 -- the two first lines: the model's name, and the number of loops
-abbrev pub head_text : List ℕ → List ℕ
-head_text name = codes "model " ++ name ++ codes "\nloops 1\n"
+abbrev pub head_text : List ℕ → ℕ → List ℕ
+head_text name loops = codes "model " ++ name ++ codes "\nloops " ++ decimal loops ++ codes "\n"
 
 -- the whole text
-abbrev pub first_text : FirstLines → List ℕ
-first_text lines = head_text lines.name ++ flat_map line_text lines.lines
+abbrev pub betas_text : Betas → List ℕ
+betas_text betas = head_text betas.model betas.loops ++ flat_map (line_text betas.targets) betas.lines
+
+-- what is written of a model that is accepted
+abbrev pub accepted_text : Checked → List ℕ
+accepted_text found = codes "accepted " ++ found.name ++ codes "\n"

@@ -1,12 +1,12 @@
 -- Which lists of words are commands.
-use Rattle.std.specs.Prelude.{ℕ, nat_le, ◌&&◌, if◌then◌else◌, List, [], ◌∷◌, map, Option, Some, None, option_map, option_and_then, codes, decimal}
+use Rattle.std.specs.Prelude.{ℕ, ◌≤◌, nat_le, ◌&&◌, if◌then◌else◌, ⊤, List, [], ◌∷◌, map, Option, Some, None, option_map, option_and_then, codes, decimal}
 use Rattle.std.specs.Str.{bytes_eq}
 use Rattle.std.specs.Str.Parse.{digits_value}
 use Rattle.std.specs.Rc.{rc_str_bytes}
 use Rattle.std.specs.declared.rc.RcStr.{RcStr}
 use Rattle.std.specs.declared.alloc.Global.{Global}
 use Rattle.rate_tool.specs.declared.words.Command.{Command}
-use Rattle.rate_tool.specs.declared.words.Command.TheVariants.{Derive}
+use Rattle.rate_tool.specs.declared.words.Command.TheVariants.{Derive, Check}
 
 -- the texts of words
 abbrev pub texts : List (RcStr Global) → List (List ℕ)
@@ -24,13 +24,32 @@ within low high n = if nat_le low n && nat_le n high then Some n else None
 abbrev pub number_in : ℕ → ℕ → List ℕ → Option ℕ
 number_in low high word = option_and_then (within low high) (number_of word)
 
--- `derive 1 text WORKERS`, with 1 to 64 workers
+-- `derive LOOPS text WORKERS`, with 1 or 2 loops and 1 to 64 workers
+abbrev pub derive_with : List ℕ → ℕ → Option Command
+derive_with workers loops = option_map (λ n. Derive loops n) (number_in 1 64 workers)
+
 abbrev pub derive_of : List ℕ → List ℕ → List ℕ → List ℕ → Option Command
 derive_of name loops format workers =
-    if (bytes_eq name (codes "derive") && bytes_eq loops (codes "1")) && bytes_eq format (codes "text") then option_map (λ n. Derive n) (number_in 1 64 workers)
+    if bytes_eq name (codes "derive") && bytes_eq format (codes "text") then option_and_then (derive_with workers) (number_in 1 2 loops)
     else None
+
+-- `check`
+abbrev pub check_of : List ℕ → Option Command
+check_of name = if bytes_eq name (codes "check") then Some Check else None
 
 -- the command that words are
 abbrev pub command_of : List (List ℕ) → Option Command
+command_of (name ∷ []) = check_of name
 command_of (name ∷ loops ∷ format ∷ workers ∷ []) = derive_of name loops format workers
 command_of _ = None
+
+-- the numbers of a command are within their bounds
+pub record AreWithin (loops workers : ℕ) : Type 0 where
+  pub least_loops : 1 ≤ loops
+  pub most_loops : loops ≤ 2
+  pub least_workers : 1 ≤ workers
+  pub most_workers : workers ≤ 64
+
+abbrev pub HasNumbers : Command → Type 0
+HasNumbers (Derive loops workers) = AreWithin loops workers
+HasNumbers Check = ⊤

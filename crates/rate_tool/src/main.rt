@@ -5,17 +5,12 @@ ghost use Rattle.std.specs.Prelude.{◌≡◌, ◌⊎◌, map, string_bytes, IfO
 ghost use Rattle.std.specs.Vec.Iter.{into_iter_items};
 ghost use Rattle.rate_tool.specs.Words.{texts};
 
-mod abelian;
 mod broken_keeper;
 #[cfg(test)]
 mod expand_tests;
-mod gate;
-mod gauge;
-#[cfg(test)]
-mod gauge_tests;
+mod fault_lines;
 mod keeper;
-mod lines;
-mod multiplets;
+mod line_text;
 mod print;
 mod room;
 mod run;
@@ -29,7 +24,7 @@ mod tests;
 mod words;
 
 use broken_keeper::BrokenKeeper;
-use gate::NoGate;
+use contraction_workers::NoGate;
 use run::run;
 use status::Status;
 use std::alloc::{AllocError, Global};

@@ -1,20 +1,23 @@
 //! The top call.
-ghost use Rattle.std.specs.Prelude.{◌≡◌, ◌↔◌, ◌<◌, ◌⊎◌, length, Err, IsNone, IfSome};
-ghost use Rattle.model_core.specs.declared.fault.ReadFault.{ReadFault};
+ghost use Rattle.std.specs.Prelude.{◌≡◌, ◌↔◌, ◌<◌, ◌≤◌, ◌⊎◌, length, Err, IsNone, IfSome};
+ghost use Rattle.anomaly_check.specs.declared.anomaly.Anomaly.{Anomaly};
+ghost use Rattle.derive_core.specs.Derivation.{Derives, derivation, checked, result_map};
 ghost use Rattle.frac128.specs.declared.frac.Overflow.{Overflow};
-ghost use Rattle.rate_tool.specs.Lines.{Derives};
+ghost use Rattle.gauge_check.specs.declared.fault.TermFault.{TermFault};
+ghost use Rattle.model_core.specs.declared.fault.ReadFault.{ReadFault};
 ghost use Rattle.rate_tool.specs.Stream.{Rose};
-ghost use Rattle.rate_tool.specs.Words.{command_of, texts};
-ghost use Rattle.rate_tool.specs.Run.{answer_to, due_status, IsDue, IsOverflow, WasTooLong, HasAnswer, HasOverflow, WroteAnswer, WroteFront, IsSilent};
+ghost use Rattle.rate_tool.specs.Text.{betas_text, accepted_text};
+ghost use Rattle.rate_tool.specs.Words.{command_of, texts, HasNumbers};
+ghost use Rattle.rate_tool.specs.Run.{answer_to, due_status, status_of, IsDue, IsOverflow, WasTooLong, HasAnswer, HasOverflow, WroteAnswer, WroteFront, IsSilent};
 ghost use Rattle.rate_tool.specs.Steps.{PieceEnds, ReadEnds, FileEnds};
 
-use crate::gate::Gate;
 use crate::keeper::Keeper;
-use crate::lines::{DeriveFault, derive_first};
-use crate::print::print_first;
+use crate::print::{print_accepted, print_betas};
 use crate::status::Status;
 use crate::stream::{Sink, Source, write_all};
 use crate::words::{Command, command_of};
+use contraction_workers::Gate;
+use derive_core::{DeriveFault, check, derive};
 use frac128::ByteList;
 use std::alloc::Global;
 use std::rc::RcStr;
@@ -72,23 +75,80 @@ fn read_all<S: Source>(alloc: Global, source: &mut S) -> Result<Vec<u8>, Stop>
     Err(Stop::TooLong)
 }
 
-/// What a command answers to a file.
-fn answer_to(alloc: Global, command: Command, file: &[u8]) -> Result<ByteList, DeriveFault>
-    ensures { Derives file.now (answer_to command file.now) result }
+/// The printed beta functions of a file, to so many loops.
+fn derived_text<R: Threads + Sync, G: Gate>(
+    rt: &R,
+    alloc: Global,
+    loops: u32,
+    workers: u32,
+    file: &[u8],
+    gate: &G,
+) -> Result<ByteList, DeriveFault>
+    requires one_loop { 1 ≤ loops }
+    requires loops { loops ≤ 2 }
+    requires one_worker { 1 ≤ workers }
+    requires workers { workers ≤ 64 }
+    ensures { Derives file.now (result_map betas_text (derivation loops file.now)) result }
 {
-    let Command::Derive { .. } = command;
-    let lines = derive_first(alloc, file)?;
-    let text = print_first(alloc, &lines)?;
+    let betas = derive(rt, alloc, file, loops, workers, gate)?;
+    let text = print_betas(alloc, &betas)?;
     Ok(text)
 }
 
+/// What is written of a file that is accepted.
+fn checked_text<R: Threads + Sync, G: Gate>(
+    rt: &R,
+    alloc: Global,
+    file: &[u8],
+    gate: &G,
+) -> Result<ByteList, DeriveFault>
+    ensures { Derives file.now (result_map accepted_text (checked file.now)) result }
+{
+    let found = check(rt, alloc, file, 1, gate)?;
+    let text = print_accepted(alloc, &found)?;
+    Ok(text)
+}
+
+/// What a command answers to a file.
+fn answer_to<R: Threads + Sync, G: Gate>(
+    rt: &R,
+    alloc: Global,
+    command: Command,
+    file: &[u8],
+    gate: &G,
+) -> Result<ByteList, DeriveFault>
+    requires { HasNumbers command }
+    ensures { Derives file.now (answer_to command file.now) result }
+{
+    match command {
+        Command::Derive { loops, workers } => derived_text(rt, alloc, loops, workers, file, gate),
+        Command::Check => checked_text(rt, alloc, file, gate),
+    }
+}
+
+/// The status of a file that is refused.
+fn refusal_of(fault: DeriveFault) -> Status
+    ensures { result ≡ status_of (Err fault) }
+{
+    match fault {
+        DeriveFault::Read(bad) => Status::Malformed(bad),
+        DeriveFault::Term(bad) => Status::BadTerm(bad),
+        DeriveFault::Anomalous(bad) => Status::Anomalous(bad),
+        DeriveFault::Overflow(pair) => Status::Overflow(pair),
+        DeriveFault::NoMemory => Status::NoMemory,
+    }
+}
+
 /// Reads the source's file and writes what the command answers to it.
-fn answer_file<S: Source, O: Sink>(
+fn answer_file<R: Threads + Sync, S: Source, O: Sink, G: Gate>(
+    rt: &R,
     alloc: Global,
     command: Command,
     source: &mut S,
     out: &mut O,
+    gate: &G,
 ) -> Status
+    requires { HasNumbers command }
     ensures ended { FileEnds command (record {
       left = S.left source.old;
       left' = S.left source.new;
@@ -107,11 +167,9 @@ fn answer_file<S: Source, O: Sink>(
         Err(Stop::ReadFault) => return Status::ReadFault,
         Err(Stop::TooLong) => return Status::TooLong,
     };
-    let text = match answer_to(alloc, command, bytes.as_slice()) {
+    let text = match answer_to(rt, alloc, command, bytes.as_slice(), gate) {
         Ok(text) => text,
-        Err(DeriveFault::NoMemory) => return Status::NoMemory,
-        Err(DeriveFault::Read(fault)) => return Status::Malformed(fault),
-        Err(DeriveFault::Overflow(pair)) => return Status::Overflow(pair),
+        Err(fault) => return refusal_of(fault),
     };
     match write_all(out, text.as_slice()) {
         Ok(()) => Status::Done,
@@ -125,13 +183,13 @@ fn answer_file<S: Source, O: Sink>(
 /// Content is said of a source that tells the bytes it has left, and of a sink that tells the bytes
 /// it has taken. Want of memory may be answered at any step before the first byte is written.
 pub fn run<R: Threads + Sync, S: Source, O: Sink, K: Keeper, G: Gate>(
-    _rt: &R,
+    rt: &R,
     alloc: Global,
     words: &[RcStr],
     source: &mut S,
     out: &mut O,
     keeper: &mut K,
-    _gate: &G,
+    gate: &G,
 ) -> Status
     // The status is the one that is due to the words and the source's bytes, but for want of memory
     // and faults of the streams.
@@ -146,8 +204,12 @@ pub fn run<R: Threads + Sync, S: Source, O: Sink, K: Keeper, G: Gate>(
     ensures usage { (result ≡ Status.Usage) ↔ IsNone (command_of (texts words.now)) }
     ensures read_fault { result ≡ Status.ReadFault → Rose (S.faults source.old) (S.faults source.new) }
     ensures too_long { result ≡ Status.TooLong → WasTooLong (S.left source.old) (S.left source.new) }
-    ensures malformed { (fault : ReadFault) → result ≡ Status.Malformed fault →
-        HasAnswer (texts words.now) (S.left source.old) (S.left source.new) (Err fault) }
+    ensures malformed { (bad : ReadFault) → result ≡ Status.Malformed bad →
+        HasAnswer (texts words.now) (S.left source.old) (S.left source.new) (Err (DeriveFault.Read bad)) }
+    ensures bad_term { (bad : TermFault) → result ≡ Status.BadTerm bad →
+        HasAnswer (texts words.now) (S.left source.old) (S.left source.new) (Err (DeriveFault.Term bad)) }
+    ensures anomalous { (bad : Anomaly) → result ≡ Status.Anomalous bad →
+        HasAnswer (texts words.now) (S.left source.old) (S.left source.new) (Err (DeriveFault.Anomalous bad)) }
     ensures overflow { (pair : Overflow) → result ≡ Status.Overflow pair →
         HasOverflow (texts words.now) (S.left source.old) (S.left source.new) pair }
     ensures write_fault { result ≡ Status.WriteFault → Rose (O.faults out.old) (O.faults out.new) }
@@ -170,7 +232,7 @@ pub fn run<R: Threads + Sync, S: Source, O: Sink, K: Keeper, G: Gate>(
 {
     let _ = keeper;
     match command_of(words) {
-        Some(command) => answer_file(alloc, command, source, out),
+        Some(command) => answer_file(rt, alloc, command, source, out, gate),
         None => Status::Usage,
     }
 }

@@ -1,20 +1,26 @@
 //! Worked examples of `run` over objects in memory, and of the adapters.
 use crate::broken_keeper::BrokenKeeper;
-use crate::gate::NoGate;
 use crate::run::run;
 use crate::sinks::{MemorySink, SureSink};
 use crate::sources::{MemorySource, SureSource};
 use crate::status::Status;
 use crate::stream::{Sink, Source, write_all};
 use crate::streams::{Reading, Writing};
+use contraction_workers::NoGate;
 use frac128::{ByteList, FailList, Frac, Overflow};
 use std::alloc::{AllocError, Global};
 use std::process::Abort;
 use std::rc::RcStr;
 use std::thread::Threads;
 
-/// The words of the one command.
+/// The words that derive to one loop.
 const DERIVE: &[&str] = &["derive", "1", "text", "1"];
+
+/// The words that derive to two loops.
+const DERIVE_TWO: &[&str] = &["derive", "2", "text", "1"];
+
+/// The words that check a file.
+const CHECK: &[&str] = &["check"];
 
 /// Pure SU(3).
 const FILE: &[u8] = b"profile = 1\nname = \"ym\"\ngroup = [{name=\"SU3\", n=3, coupling=\"g\"}]\n";
@@ -80,7 +86,7 @@ fn check<R: Threads + Sync + Abort>(
 ) -> Result<(), AllocError> {
     let mut bytes = ByteList::new(alloc);
     bytes.extend(file)?;
-    let mut out = SureSink::new(alloc, 256)?;
+    let mut out = SureSink::new(alloc, 1024)?;
     let (got, told) = run_over(rt, alloc, words, &mut SureSource::new(bytes), &mut out)?;
     assert_eq!(rt; got, code);
     assert_eq!(rt; out.bytes().unwrap_or(b"lost"), text);
@@ -90,10 +96,19 @@ fn check<R: Threads + Sync + Abort>(
 
 #[test]
 fn words_have_their_answers(rt: HostRuntime) -> Result<(), AllocError> {
-    let rows: [(&[&str], u8, &[u8], &[u8]); 9] = [
+    let rows: [(&[&str], u8, &[u8], &[u8]); 13] = [
         (DERIVE, 0, TEXT, b""),
+        (CHECK, 0, b"accepted ym\n", b""),
+        (&["check", "ym"], 2, b"", b"usage\n"),
         (&["derive", "1", "text", "64"], 0, TEXT, b""),
         (&[], 2, b"", b"usage\n"),
+        (
+            DERIVE_TWO,
+            0,
+            b"model ym\nloops 2\nbeta1 g = -11*g^3\nbeta2 g = -102*g^5\n",
+            b"",
+        ),
+        (&["derive", "02", "text", "1"], 2, b"", b"usage\n"),
         (&["derive", "3", "text", "1"], 2, b"", b"usage\n"),
         (&["derive", "1", "text", "0"], 2, b"", b"usage\n"),
         (&["derive", "1", "text", "65"], 2, b"", b"usage\n"),
@@ -185,15 +200,133 @@ fn refused_files_have_their_lines(rt: HostRuntime) -> Result<(), AllocError> {
             5,
             b"malformed OverLimit term 3 0 5\n",
         ),
-        // Of four squared charges with denominators of 12 digits the first three have a sum, and the fourth has none with it.
+        // Of three cubed charges with denominators of 18 digits the first two have a sum, and the third has none with it.
         (
-            b"profile = 1\nname = \"odd\"\ngroup = [{name=\"U1\", n=1, coupling=\"g\"}]\nfermion = [{name=\"a\", charge=\"1/999983\"}, {name=\"b\", charge=\"1/999979\"}, {name=\"c\", charge=\"1/999961\"}, {name=\"d\", charge=\"1/999959\"}]\n",
+            b"profile = 1\nname = \"odd\"\ngroup = [{name=\"U1\", n=1, coupling=\"g\"}]\nfermion = [{name=\"a\", charge=\"1/999983\"}, {name=\"b\", charge=\"1/999979\"}, {name=\"c\", charge=\"1/999961\"}, {name=\"d\", charge=\"-1/999983\"}, {name=\"e\", charge=\"-1/999979\"}, {name=\"f\", charge=\"-1/999961\"}]\n",
             8,
-            b"overflow 2999692011857800333237779/999846009606688953526011791399849929 1/999918001681\n",
+            b"overflow 1999886002189985826/999886005402863733928856470859499293 1/999883004562940681\n",
         ),
     ];
     for (file, code, line) in rows {
         check(&rt, rt.alloc(), DERIVE, file, code, b"", line)?;
+    }
+    Ok(())
+}
+
+/// What is told of a model named M, and its keys, with `@` for a line break. The values were worked out by hand.
+const CHECKED: &str = r#"
+accepted M <= group = [{name="U1", n=1, coupling="g"}]@fermion = [{name="e", charge="-1"}, {name="ec", charge=1}]
+# The Standard Model, then with another charge of u, and with H for its conjugate.
+accepted M <= group = [{name="U1", n=1, coupling="g1"}, {name="SU2", n=2, coupling="g2"}, {name="SU3", n=3, coupling="g3"}]@fermion = [{name="Q", generations=3, charge="1/6", reps={SU2="fund", SU3="fund"}}, {name="u", generations=3, charge="-2/3", reps={SU3="conj"}}, {name="d", generations=3, charge="1/3", reps={SU3="conj"}}, {name="L", generations=3, charge="-1/2", reps={SU2="fund"}}, {name="e", generations=3, charge="1"}]@scalar = [{name="H", charge="1/2", reps={SU2="fund"}}]@term = [{coupling="Yu", value="complex", shape="matrix", flavour=["i", "j"], text="Q[i](a,c) u[j](c) H(b) eps(a,b)"}, {coupling="Yd", value="complex", shape="matrix", flavour=["i", "j"], text="Q[i](a,c) d[j](c) H~(a)"}, {coupling="Ye", value="complex", shape="matrix", flavour=["i", "j"], text="L[i](a) e[j] H~(a)"}, {coupling="lam", text="H~(a) H(a) H~(b) H(b)"}]
+term 1 Yu not invariant under U1 0 0 at Q[1](1,1) u[1](1) H(2) value 1 <= group = [{name="U1", n=1, coupling="g1"}, {name="SU2", n=2, coupling="g2"}, {name="SU3", n=3, coupling="g3"}]@fermion = [{name="Q", generations=3, charge="1/6", reps={SU2="fund", SU3="fund"}}, {name="u", generations=3, charge="1/3", reps={SU3="conj"}}]@scalar = [{name="H", charge="1/2", reps={SU2="fund"}}]@term = [{coupling="Yu", value="complex", shape="matrix", flavour=["i", "j"], text="Q[i](a,c) u[j](c) H(b) eps(a,b)"}]
+term 2 Yd not invariant under U1 0 0 at Q[1](1,1) d[1](1) H(1) value 1 <= group = [{name="U1", n=1, coupling="g1"}, {name="SU2", n=2, coupling="g2"}, {name="SU3", n=3, coupling="g3"}]@fermion = [{name="Q", generations=3, charge="1/6", reps={SU2="fund", SU3="fund"}}, {name="u", generations=3, charge="-2/3", reps={SU3="conj"}}, {name="d", generations=3, charge="1/3", reps={SU3="conj"}}]@scalar = [{name="H", charge="1/2", reps={SU2="fund"}}]@term = [{coupling="Yu", value="complex", shape="matrix", flavour=["i", "j"], text="Q[i](a,c) u[j](c) H(b) eps(a,b)"}, {coupling="Yd", value="complex", shape="matrix", flavour=["i", "j"], text="Q[i](a,c) d[j](c) H(a)"}]
+# Two doublets are joined by eps alone.
+term 1 q not invariant under SU2 1 1 at H(1) H(1) H(1) H(1) value 48 <= group = [{name="SU2", n=2, coupling="g"}]@scalar = [{name="H", reps={SU2="fund"}}]@term = [{coupling="q", hc=true, text="H(a) H(a) H(b) H(b)"}]
+# Of a scalar term its conjugate is missing.
+term 1 q not hermitian at P P X~ X~ <= group = [{name="U1", n=1, coupling="g"}]@scalar = [{name="P", charge="1"}, {name="X", charge="1"}]@term = [{coupling="q", text="P~ P~ X X"}]
+term 1 m not hermitian at s[1] s[1] s~[1] s~[2] <= scalar = [{name="s", generations=2}]@term = [{coupling="m", shape="matrix", flavour=["i", "j"], text="s~[i] s[j] s~[1] s[1]"}]
+# A term comes before an anomaly, and an anomaly of a group before those of the charge.
+term 1 q not hermitian at P P X~ X~ <= group = [{name="U1", n=1, coupling="g"}]@fermion = [{name="e", charge="-1"}]@scalar = [{name="P", charge="1"}, {name="X", charge="1"}]@term = [{coupling="q", text="P~ P~ X X"}]
+anomalous Gravity U1 -1 <= group = [{name="U1", n=1, coupling="g"}]@fermion = [{name="e", charge="-1"}]
+anomalous Mixed SU2 3 <= group = [{name="U1", n=1, coupling="g1"}, {name="SU2", n=2, coupling="g2"}, {name="SU3", n=3, coupling="g3"}]@fermion = [{name="Q", generations=3, charge="1/6", reps={SU2="fund", SU3="fund"}}, {name="u", generations=3, charge="-2/3", reps={SU3="conj"}}, {name="d", generations=3, charge="1/3", reps={SU3="conj"}}, {name="L", generations=3, charge="1/2", reps={SU2="fund"}}, {name="e", generations=3, charge="1"}]
+anomalous Cubic SU5 1 <= group = [{name="SU5", n=5, coupling="g"}]@fermion = [{name="T", reps={SU5="anti2"}}]
+anomalous Global SU2 1 <= group = [{name="SU2", n=2, coupling="g"}]@fermion = [{name="D", reps={SU2="fund"}}]
+malformed WrongContent term 1 0 0 <= scalar = [{name="S", real=true}]@term = [{coupling="q", text="S"}]
+"#;
+
+/// The file of a model named M with these keys.
+fn file_of(alloc: Global, keys: &str) -> Result<ByteList, AllocError> {
+    let mut file = ByteList::new(alloc);
+    file.extend(b"profile = 1\nname = \"M\"\n")?;
+    for byte in keys.as_bytes() {
+        file.push(if *byte == b'@' { b'\n' } else { *byte })?;
+    }
+    Ok(file)
+}
+
+/// The exit code of a status line.
+fn code_of(line: &str) -> u8 {
+    if line.starts_with("malformed") {
+        return 5;
+    }
+    if line.starts_with("term") {
+        return 6;
+    }
+    7
+}
+
+/// Checks what `check` tells of a file; where it refuses the file, `derive` tells the same.
+fn check_told<R: Threads + Sync + Abort>(
+    rt: &R,
+    alloc: Global,
+    file: &[u8],
+    line: &str,
+) -> Result<(), AllocError> {
+    let told = format!(in alloc; "{line}\n")?;
+    if line.starts_with("accepted") {
+        return check(rt, alloc, CHECK, file, 0, told.as_bytes(), b"");
+    }
+    check(rt, alloc, CHECK, file, code_of(line), b"", told.as_bytes())?;
+    check(rt, alloc, DERIVE, file, code_of(line), b"", told.as_bytes())
+}
+
+#[test]
+fn terms_and_anomalies_have_their_lines(rt: HostRuntime) -> Result<(), AllocError> {
+    for row in CHECKED.lines() {
+        let Some((line, keys)) = row.split_once(" <= ") else {
+            assert!(rt; row.is_empty() || row.starts_with('#'), "{row}");
+            continue;
+        };
+        let file = file_of(rt.alloc(), keys)?;
+        check_told(&rt, rt.alloc(), file.as_slice(), line)?;
+    }
+    Ok(())
+}
+
+/// The beta lines to two loops of a model named M, joined by ` ; `, and its keys, with `@` for a line break. The coefficients
+/// are those of Machacek and Vaughn, and of Luo, Wang and Xiao; those of the Standard Model are the published ones, with the
+/// hypercharge as the charge, where g1^2 is 3/5 of that of a unified theory.
+const TWO_LOOPS: &str = r#"
+beta1 g = -7*g^3 ; beta2 g = -26*g^5 <= group = [{name="SU3", n=3, coupling="g"}]@fermion = [{name="q", generations=6, reps={SU3="fund"}}, {name="qc", generations=6, reps={SU3="conj"}}]
+beta1 g = 4/3*g^3 ; beta2 g = 4*g^5 <= group = [{name="U1", n=1, coupling="g"}]@fermion = [{name="e", charge="-1"}, {name="ec", charge=1}]
+beta1 g = 1/3*g^3 ; beta2 g = 4*g^5 <= group = [{name="U1", n=1, coupling="g"}]@scalar = [{name="p", charge="1"}]@term = [{coupling="lam", text="p~ p p~ p"}]
+beta1 g = -7*g^3 ; beta2 g = -36*g^5 <= group = [{name="SU2", n=2, coupling="g"}]@scalar = [{name="Phi", real=true, reps={SU2="adjoint"}}]@term = [{coupling="lam", text="1/4 Phi(a,b) Phi(b,a) Phi(c,d) Phi(d,c)"}]
+beta1 g = 2/3*g^3 ; beta2 g = 8*g^5 <= group = [{name="U1", n=1, coupling="g"}]@scalar = [{name="P", charge="1"}, {name="X", charge="1"}]@term = [{coupling="l1", text="P~ P P~ P"}, {coupling="l2", text="X~ X X~ X"}]
+beta1 g1 = 41/6*g1^3 ; beta1 g2 = -19/6*g2^3 ; beta1 g3 = -7*g3^3 ; beta2 g1 = 199/18*g1^5 + 9/2*g1^3*g2^2 + 44/3*g1^3*g3^2 - 17/6*g1^3*yt^2 - 5/6*g1^3*yb^2 - 5/2*g1^3*yl^2 ; beta2 g2 = 3/2*g1^2*g2^3 + 35/6*g2^5 + 12*g2^3*g3^2 - 3/2*g2^3*yt^2 - 3/2*g2^3*yb^2 - 1/2*g2^3*yl^2 ; beta2 g3 = 11/6*g1^2*g3^3 + 9/2*g2^2*g3^3 - 26*g3^5 - 2*g3^3*yt^2 - 2*g3^3*yb^2 <= group = [{name="U1", n=1, coupling="g1"}, {name="SU2", n=2, coupling="g2"}, {name="SU3", n=3, coupling="g3"}]@fermion = [{name="Q", generations=3, charge="1/6", reps={SU2="fund", SU3="fund"}}, {name="u", generations=3, charge="-2/3", reps={SU3="conj"}}, {name="d", generations=3, charge="1/3", reps={SU3="conj"}}, {name="L", generations=3, charge="-1/2", reps={SU2="fund"}}, {name="e", generations=3, charge="1"}]@scalar = [{name="H", charge="1/2", reps={SU2="fund"}}]@term = [{coupling="yt", text="Q[3](a,c) u[3](c) H(b) eps(a,b)"}, {coupling="yb", text="Q[3](a,c) d[3](c) H~(a)"}, {coupling="yl", text="L[3](a) e[3] H~(a)"}, {coupling="lam", text="H~(a) H(a) H~(b) H(b)"}]
+# One generation with complex couplings, and two without couplings.
+beta1 g1 = 43/18*g1^3 ; beta1 g2 = -35/6*g2^3 ; beta1 g3 = -29/3*g3^3 ; beta2 g1 = 217/54*g1^5 + 5/2*g1^3*g2^2 + 44/9*g1^3*g3^2 - 17/6*g1^3*yt*conj(yt) - 5/6*g1^3*yb*conj(yb) - 5/2*g1^3*yl*conj(yl) ; beta2 g2 = 5/6*g1^2*g2^3 - 161/6*g2^5 + 4*g2^3*g3^2 - 3/2*g2^3*yt*conj(yt) - 3/2*g2^3*yb*conj(yb) - 1/2*g2^3*yl*conj(yl) ; beta2 g3 = 11/18*g1^2*g3^3 + 3/2*g2^2*g3^3 - 230/3*g3^5 - 2*g3^3*yt*conj(yt) - 2*g3^3*yb*conj(yb) <= group = [{name="U1", n=1, coupling="g1"}, {name="SU2", n=2, coupling="g2"}, {name="SU3", n=3, coupling="g3"}]@fermion = [{name="Q", charge="1/6", reps={SU2="fund", SU3="fund"}}, {name="u", charge="-2/3", reps={SU3="conj"}}, {name="d", charge="1/3", reps={SU3="conj"}}, {name="L", charge="-1/2", reps={SU2="fund"}}, {name="e", charge="1"}]@scalar = [{name="H", charge="1/2", reps={SU2="fund"}}]@term = [{coupling="yt", value="complex", text="Q(a,c) u(c) H(b) eps(a,b)"}, {coupling="yb", value="complex", text="Q(a,c) d(c) H~(a)"}, {coupling="yl", value="complex", text="L(a) e H~(a)"}]
+beta1 g1 = 83/18*g1^3 ; beta1 g2 = -9/2*g2^3 ; beta1 g3 = -25/3*g3^3 ; beta2 g1 = 407/54*g1^5 + 7/2*g1^3*g2^2 + 88/9*g1^3*g3^2 ; beta2 g2 = 7/6*g1^2*g2^3 - 21/2*g2^5 + 8*g2^3*g3^2 ; beta2 g3 = 11/9*g1^2*g3^3 + 3*g2^2*g3^3 - 154/3*g3^5 <= group = [{name="U1", n=1, coupling="g1"}, {name="SU2", n=2, coupling="g2"}, {name="SU3", n=3, coupling="g3"}]@fermion = [{name="Q", generations=2, charge="1/6", reps={SU2="fund", SU3="fund"}}, {name="u", generations=2, charge="-2/3", reps={SU3="conj"}}, {name="d", generations=2, charge="1/3", reps={SU3="conj"}}, {name="L", generations=2, charge="-1/2", reps={SU2="fund"}}, {name="e", generations=2, charge="1"}]@scalar = [{name="H", charge="1/2", reps={SU2="fund"}}]
+"#;
+
+/// The answer that begins with the name M and the number 2 of loops, and goes on with lines joined by ` ; `.
+fn answer_of(alloc: Global, lines: &str) -> Result<ByteList, AllocError> {
+    let mut answer = ByteList::new(alloc);
+    answer.extend(b"model M\nloops 2\n")?;
+    for line in lines.split(" ; ") {
+        answer.extend(line.as_bytes())?;
+        answer.extend(b"\n")?;
+    }
+    Ok(answer)
+}
+
+#[test]
+fn two_loops_have_published_coefficients(rt: HostRuntime) -> Result<(), AllocError> {
+    for row in TWO_LOOPS.lines() {
+        let Some((lines, keys)) = row.split_once(" <= ") else {
+            assert!(rt; row.is_empty() || row.starts_with('#'), "{row}");
+            continue;
+        };
+        let file = file_of(rt.alloc(), keys)?;
+        let answer = answer_of(rt.alloc(), lines)?;
+        check(
+            &rt,
+            rt.alloc(),
+            DERIVE_TWO,
+            file.as_slice(),
+            0,
+            answer.as_slice(),
+            b"",
+        )?;
     }
     Ok(())
 }
