@@ -14,3 +14,4 @@ mod yukawa;
 
 pub use gauge::gauge_one;
 pub use two_loop::{PolyList, gauge_two};
+pub use yukawa::{FracList, casimirs_of};

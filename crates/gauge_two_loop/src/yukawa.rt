@@ -20,11 +20,14 @@ use model_core::{Group, Model, fermion_list, scalar_count};
 use sparse_tensor::{Sparse, TensorFault};
 use std::alloc::{AllocError, Global};
 
-/// Numbers of fermion components.
-type FracList = ItemList<Frac>;
+/// Numbers of fermion components, in the order of the components.
+pub type FracList = ItemList<Frac>;
 
-/// The Casimirs of all fermion components under the group at a place.
-fn casimirs_of(
+/// The quadratic Casimirs of all fermion components of a valid model under the group at a place, in the order of the
+/// components: that of their representation under SU(n), and the charge squared under the U(1).
+///
+/// `Overflow` carries two fractions whose product is refused.
+pub fn casimirs_of(
     alloc: Global,
     model: &Model,
     place: usize,
