@@ -1,0 +1,14 @@
+pub mod Adding
+pub mod AllBetas
+pub mod Bounds
+pub mod Coordinates
+pub mod Entrywise
+pub mod GaugeSums
+pub mod IdentityLinks
+pub mod Layers
+pub mod LineMatrices
+pub mod MatrixProducts
+pub mod NoYukawas
+pub mod Pairs
+pub mod PartSums
+pub mod Slices

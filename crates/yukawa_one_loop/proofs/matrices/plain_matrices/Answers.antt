@@ -1,0 +1,16 @@
+use Rattle.std.proofs.Common.{arith}
+use Rattle.model_core.specs.Scalar.{scalar_coordinates}
+use Rattle.beta_formulas.specs.YukawaBeta.{yukawa}
+use Rattle.yukawa_one_loop.proofs.Slices.{plain_linear, matrices_step, matrices_end}
+use Rattle.yukawa_one_loop.proofs.matrices.plain_matrices.Goals as goal
+
+pub loop-place-preserved : goal.loop-place-preserved
+loop-place-preserved c =
+    let model = c.args.model.now in
+    matrices_step model (yukawa model) (scalar_coordinates model) c.loop-place.place c.loop-place.matrices c.push.new.self c.in_ok-slice_of.field-0 (omega (arith, c.loop-place-test.true, c.scalar_count-place-end.ensures)) c.loop-place.invariant
+    (λ a there. plain_linear model c.args.yukawa.now c.requires.yukawa c.loop-place.place a c.in_ok-slice_of.field-0 there c.in_ok-slice_of.ensures.value) c.in_ok-push.ensures.ok
+
+pub returns-clause-value : goal.returns-clause-value
+returns-clause-value c =
+    let model = c.args.model.now in
+    matrices_end model (yukawa model) (scalar_coordinates model) c.loop-place.place c.loop-place.matrices (omega (arith, c.loop-place-test.false, c.scalar_count-place-end.ensures)) c.loop-place.invariant

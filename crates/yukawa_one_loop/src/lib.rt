@@ -1,0 +1,16 @@
+//! The beta functions of Yukawa couplings at one loop.
+#![tactic(auto)]
+
+mod betas;
+mod copies;
+mod gauges;
+mod lines;
+mod matrices;
+mod parts;
+#[cfg(test)]
+mod product_tests;
+mod products;
+mod stacks;
+
+pub use betas::yukawa_betas;
+pub use matrices::{MatrixList, YukawaMatrices};
