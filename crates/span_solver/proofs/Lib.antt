@@ -1,0 +1,13 @@
+pub mod Answered
+pub mod Dependences
+pub mod Faults
+pub mod Firsts
+pub mod Gathered
+pub mod Merges
+pub mod Named
+pub mod Opens
+pub mod Scans
+pub mod Steps
+pub mod SystemSteps
+pub mod Unique
+pub mod Values

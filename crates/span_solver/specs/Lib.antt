@@ -1,0 +1,13 @@
+pub mod Algebra
+pub mod Combine
+pub mod Elimination
+pub mod RowDependence
+pub mod Systems
+pub mod Scan
+pub mod Dependence
+pub mod Coordinate
+pub mod Block
+pub mod MergedKeys
+pub mod Scanned
+pub mod BlockDirections
+pub mod ChosenDirections

@@ -1,0 +1,22 @@
+//! Coordinates along the directions of a block.
+#![tactic(auto)]
+
+mod block;
+mod directions;
+mod fault;
+mod keys;
+mod laws;
+mod names;
+mod numbers;
+mod pivots;
+mod prefixes;
+mod rows;
+mod scan;
+mod solve;
+mod solved;
+mod systems;
+
+pub use block::Block;
+pub use fault::SpanFault;
+pub use laws::coordinates_are_unique;
+pub use solved::{PolyList, Solved};
