@@ -11,7 +11,7 @@ use Rattle.model_core.specs.GaugeTwoLoop.{gauge_two_loop}
 use Rattle.model_core.specs.Valid.{IsValid}
 use Rattle.model_core.proofs.ValidLaws.{valid_parts, parts_groups, group_limit}
 use Rattle.derive_core.specs.declared.betas.Line.{Line}
-use Rattle.derive_core.specs.Derivation.{gauge_line, second_of, lines}
+use Rattle.derive_core.specs.Lines.{gauge_line, second_of, gauge_lines}
 
 pub swapped : {A B : Type 0} → A ⊎ B → B ⊎ A
 swapped (inl x) = inr x
@@ -31,8 +31,8 @@ second_are f place (group ∷ groups) = ap (λ ls. second_of (place, f (place, g
 -- the lines to two loops
 pub two_loops : (model : Model) (loops : ℕ) (first : List Line) (values : List Polynomial) (all : List Line) → loops ≡ 2
     → first ≡ map (gauge_line model) (enumerate_from 0 model.groups) → values ≡ map (gauge_two_loop model) (enumerate_from 0 model.groups)
-    → all ≡ first ++ map second_of (enumerate_from 0 values) → lines loops model ≡ all
+    → all ≡ first ++ map second_of (enumerate_from 0 values) → all ≡ gauge_lines loops model
 two_loops model loops first values all two first_is values_are all_is =
-    ap (λ l. lines l model) two
-    ∙ ap₂ ◌++◌ (sym first_is) (sym (ap (λ v. map second_of (enumerate_from 0 v)) values_are ∙ second_are (gauge_two_loop model) 0 model.groups))
-    ∙ sym all_is
+    all_is
+    ∙ ap₂ ◌++◌ first_is (ap (λ v. map second_of (enumerate_from 0 v)) values_are ∙ second_are (gauge_two_loop model) 0 model.groups)
+    ∙ sym (ap (λ l. gauge_lines l model) two)

@@ -8,14 +8,14 @@ use Rattle.std.proofs.lemmas.Option.{slice_get_within, get_or_from_slice_get}
 use Rattle.model_core.specs.declared.model.Model.{Model}
 use Rattle.model_core.specs.declared.term.Term.{Term}
 use Rattle.model_core.specs.Content.{first_column, columns_at, rows_of, symbol_count}
-use Rattle.model_core.specs.Directions.{cells_in, cells, numbered, entries_from, entries}
+use Rattle.model_core.specs.Directions.{cells_in, cells, numbered, entries_from}
 use Rattle.model_core.specs.TermRules.{is_term}
 use Rattle.model_core.specs.Valid.{IsValid}
 use Rattle.model_core.proofs.ContentLaws.{drop-rows, drop-all_rows, drop-columns, drop-all_columns}
 use Rattle.model_core.proofs.ValidTerms.{term_sizes}
 use Rattle.term_expand.proofs.NumberedTerms.{term_meets}
 use Rattle.derive_core.specs.declared.betas.Target.{Target}
-use Rattle.derive_core.specs.Derivation.{gauge_target, cell_target, term_targets, entry_target, targets}
+use Rattle.derive_core.specs.Targets.{gauge_target, cell_target, term_targets, entry_target, targets}
 
 -- one element of a mapped list more
 mapped_more : {A B : Type 0} (f : A → B) (done : List B) (rest others : List A) (x : A) → rest ≡ x ∷ others → (done ++ f x ∷ []) ++ map f others ≡ done ++ map f rest

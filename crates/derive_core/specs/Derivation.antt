@@ -1,163 +1,117 @@
 -- What is derived from a model file, and the first thing for which it is refused.
-use Rattle.std.specs.Prelude.{◌≡◌, ◌≢◌, ◌⊎◌, ◌==◌, if◌then◌else◌, ⊤, ℕ, List, [], ◌∷◌, ◌++◌, map, Result, Ok, Err}
-use Rattle.std.specs.List.{enumerate_from}
+use Rattle.std.specs.Prelude.{◌≡◌, ◌≢◌, ◌⊎◌, ⊤, ℕ, List, [], Result, Ok, Err}
 use Rattle.frac128.specs.declared.frac.Overflow.{Overflow}
-use Rattle.beta_poly.specs.Monomial.{power}
-use Rattle.beta_poly.specs.Polynomial.{Polynomial, term as poly_term}
 use Rattle.beta_poly.specs.Refusals.{IsRefusedPair}
-use Rattle.model_core.specs.declared.group.Group.{Group}
 use Rattle.model_core.specs.declared.model.Model.{Model}
-use Rattle.model_core.specs.declared.term.Term.{Term}
-use Rattle.model_core.specs.declared.term.Shape.{Shape}
-use Rattle.model_core.specs.declared.term.Shape.TheVariants.{One}
-use Rattle.model_core.specs.declared.fault.ReadFault.{ReadFault}
-use Rattle.model_core.specs.Anomaly.{Trace, anomalies}
-use Rattle.model_core.specs.Directions.{CouplingEntry, cells, entries}
-use Rattle.model_core.specs.GaugeBeta.{gauge_one_loop}
-use Rattle.model_core.specs.GaugeTwoLoop.{gauge_symbol, gauge_two_loop}
-use Rattle.model_core.specs.Invariance.{Failure, failures}
+use Rattle.model_core.specs.Anomaly.{anomalies}
 use Rattle.model_core.specs.Plain.{IsPlain}
 use Rattle.model_core.specs.Reading.{reading}
-use Rattle.anomaly_check.specs.Answers.{anomaly_of}
-use Rattle.gauge_check.specs.Faults.{fault_of}
-use Rattle.model_core.specs.Valid.{IsValid}
-use Rattle.term_expand.specs.Expansion.{IsExpansion}
-use Rattle.derive_core.specs.declared.accept.Accepted.{Accepted}
-use Rattle.derive_core.specs.declared.betas.Target.{Target}
-use Rattle.derive_core.specs.declared.betas.Line.{Line}
-use Rattle.derive_core.specs.declared.betas.Line.TheVariants.{Beta}
+use Rattle.anomaly_check.specs.Answers.{IsFirstOf}
+use Rattle.anomaly_check.specs.declared.anomaly.Anomaly.{Anomaly}
+use Rattle.derive_core.specs.Lines.{lines}
+use Rattle.derive_core.specs.Outcomes.{AreTold}
+use Rattle.derive_core.specs.Targets.{targets}
+use Rattle.derive_core.specs.TermFaults.{IsFirstFault, HaveNoFault}
 use Rattle.derive_core.specs.declared.betas.Betas.{Betas}
 use Rattle.derive_core.specs.declared.betas.Checked.{Checked}
 use Rattle.derive_core.specs.declared.fault.DeriveFault.{DeriveFault}
 use Rattle.derive_core.specs.declared.fault.DeriveFault.TheVariants as fault
+use Rattle.derive_core.specs.declared.outcomes.Told.{Told}
 
--- ---- refusals, in their order
+-- ---- acceptance and refusals
 
--- a model whose terms have these failures and whose fermions have these anomalies
-abbrev pub without_anomalies : Model → List Trace → Result Model DeriveFault
-without_anomalies model [] = Ok model
-without_anomalies model (first ∷ others) = Err (fault.Anomalous (anomaly_of first))
+-- a model that is accepted: its terms have no fault, and it has no anomaly
+pub record IsSound (model : Model) : Type 0 where
+  pub terms : HaveNoFault model
+  pub fermions : anomalies model ≡ []
 
-abbrev pub without_failures : Model → List Failure → Result Model DeriveFault
-without_failures model [] = without_anomalies model (anomalies model)
-without_failures model (first ∷ others) = Err (fault.Term (fault_of model first))
+-- the terms have no fault, and this is the first anomaly
+pub record IsAnomalous (model : Model) (anomaly : Anomaly) : Type 0 where
+  pub terms : HaveNoFault model
+  pub first : IsFirstOf (anomalies model) anomaly
 
-abbrev pub accepted_model : Result Model ReadFault → Result Model DeriveFault
-accepted_model (Ok model) = without_failures model (failures model)
-accepted_model (Err bad) = Err (fault.Read bad)
+-- why a model is refused: the first fault of its terms, or else the first anomaly
+abbrev pub IsRefused : Model → DeriveFault → Type 0
+IsRefused model (fault.Term bad) = IsFirstFault model bad
+IsRefused model (fault.Anomalous bad) = IsAnomalous model bad
+IsRefused model _ = ⊥
 
--- The model that the bytes of a file stand for, where it is accepted: its terms are invariant and hermitian, and it has no
--- anomaly. Else the file's first bad place, the first failure of a term, or the first anomaly.
-abbrev pub accepted : List ℕ → Result Model DeriveFault
-accepted bytes = accepted_model (reading bytes)
+-- the bytes of a file stand for a model of which something holds
+pub record Stands (bytes : List ℕ) (Holds : Model → Type 0) : Type 0 where
+  pub model : Model
+  pub reads : reading bytes ≡ Ok model
+  pub holds : Holds model
 
-abbrev pub result_map : {A B E : Type 0} → (A → B) → Result A E → Result B E
-result_map f (Ok x) = Ok (f x)
-result_map f (Err e) = Err e
+-- why a file is refused: its first bad place, or why the model that it stands for is refused
+abbrev pub IsRefusal : List ℕ → DeriveFault → Type 0
+IsRefusal bytes (fault.Read bad) = reading bytes ≡ Err bad
+IsRefusal bytes bad = Stands bytes (λ model. IsRefused model bad)
 
--- ---- symbols by their ids
+-- ---- what is derived
 
-abbrev pub gauge_target : Group → Target
-gauge_target group = record { name = group.coupling; latex = group.latex; row = 0; column = 0 }
+abbrev pub betas_of : ℕ → Model → List Told → Betas
+betas_of loops model told = record { model = model.name; loops = loops; targets = targets model; lines = lines loops model told }
 
--- the row and the column of a symbol, 0 for a coupling that has one symbol
-abbrev pub index_in : Shape → ℕ → ℕ
-index_in One index = 0
-index_in _ index = index
+-- the beta functions of a model, with what is told of its blocks
+pub record AreBetas (loops : ℕ) (betas : Betas) (model : Model) : Type 0 where
+  pub told : List Told
+  pub are : AreTold model told
+  pub is : betas ≡ betas_of loops model told
 
-abbrev pub cell_target : Term → ℕ × ℕ → Target
-cell_target term cell =
-    record { name = term.coupling; latex = term.latex; row = index_in term.shape cell.0; column = index_in term.shape cell.1 }
-
--- those of a term's symbols, row by row
-abbrev pub term_targets : Term → List Target
-term_targets term = map (cell_target term) (cells term)
-
-abbrev pub entry_target : CouplingEntry → Target
-entry_target e = cell_target e.term (e.row, e.column)
-
--- a target for each symbol id: those of gauge couplings, then those of the terms' entries
-abbrev pub targets : Model → List Target
-targets model = map gauge_target model.groups ++ map entry_target (entries model)
-
--- ---- lines
-
--- the one-loop beta function of the gauge coupling of the group at a place
-abbrev pub gauge_line : Model → ℕ × Group → Line
-gauge_line model at = Beta at.0 1 (poly_term (power (gauge_symbol at.0) 3) (gauge_one_loop model at.0 at.1))
-
--- the two-loop one
-abbrev pub second_line : Model → ℕ × Group → Line
-second_line model at = Beta at.0 2 (gauge_two_loop model at)
-
--- the two-loop line of a coupling with this beta function
-abbrev pub second_of : ℕ × Polynomial → Line
-second_of at = Beta at.0 2 at.1
-
--- the two-loop lines, where two loops are asked for
-abbrev pub second_lines : ℕ → Model → List Line
-second_lines loops model = if loops == 2 then map (second_line model) (enumerate_from 0 model.groups) else []
-
--- the lines of a model to one loop or two, as far as they are built: those of the gauge couplings in file order, one loop first
-abbrev pub lines : ℕ → Model → List Line
-lines loops model = map (gauge_line model) (enumerate_from 0 model.groups) ++ second_lines loops model
-
-abbrev pub betas_of : ℕ → Model → Betas
-betas_of loops model = record { model = model.name; loops = loops; targets = targets model; lines = lines loops model }
+-- those of a model that is accepted
+pub record AreDerived (loops : ℕ) (betas : Betas) (model : Model) : Type 0 where
+  pub sound : IsSound model
+  pub found : AreBetas loops betas model
 
 abbrev pub checked_of : Model → Checked
 checked_of model = record { name = model.name; weight = 0 }
 
--- what is derived from the bytes of a file to so many loops, and what the check of it answers
-abbrev pub derivation : ℕ → List ℕ → Result Betas DeriveFault
-derivation loops bytes = result_map (betas_of loops) (accepted bytes)
+-- what the check of a model that is accepted answers
+pub record IsChecked (checked : Checked) (model : Model) : Type 0 where
+  pub sound : IsSound model
+  pub is : checked ≡ checked_of model
 
-abbrev pub checked : List ℕ → Result Checked DeriveFault
-checked bytes = result_map checked_of (accepted bytes)
+-- The derivation of a file to so many loops: the beta functions of the model that it stands for, where this is accepted, and else why
+-- it is refused.
+abbrev pub IsDerivation : ℕ → List ℕ → Result Betas DeriveFault → Type 0
+IsDerivation loops bytes (Ok betas) = Stands bytes (AreDerived loops betas)
+IsDerivation loops bytes (Err bad) = IsRefusal bytes bad
+
+-- the check of a file, with the same refusals
+abbrev pub IsCheck : List ℕ → Result Checked DeriveFault → Type 0
+IsCheck bytes (Ok checked) = Stands bytes (IsChecked checked)
+IsCheck bytes (Err bad) = IsRefusal bytes bad
 
 -- ---- where a fraction is refused
 
 -- the pair is refused, which happens only where the model has a term or isn't plain
-pub record IsTooLarge (model : Model) (pair : Overflow) : Type 0 where
+pub record IsTooLarge (pair : Overflow) (model : Model) : Type 0 where
   pub refused : IsRefusedPair pair.a pair.b
   pub large : (model.terms ≢ []) ⊎ (¬ IsPlain model)
 
 -- the bytes stand for a model, and the pair is refused
-pub record Overflows (bytes : List ℕ) (pair : Overflow) : Type 0 where
-  pub model : Model
-  pub reads : reading bytes ≡ Ok model
-  pub large : IsTooLarge model pair
+abbrev pub Overflows : List ℕ → Overflow → Type 0
+Overflows bytes pair = Stands bytes (IsTooLarge pair)
 
--- how a step from a model ends: with what is due, with the fault that is due, with a refused pair, or for want of memory
-abbrev pub Finds : {X : Type 0} → Model → Result X DeriveFault → Result X DeriveFault → Type 0
-Finds model due (Ok found) = due ≡ Ok found
-Finds model due (Err (fault.Overflow pair)) = IsTooLarge model pair
-Finds model due (Err fault.NoMemory) = ⊤
-Finds model due (Err bad) = due ≡ Err bad
+-- ---- how a step ends
 
--- the same of a step from a file's bytes
-abbrev pub Derives : {X : Type 0} → List ℕ → Result X DeriveFault → Result X DeriveFault → Type 0
-Derives bytes due (Ok found) = due ≡ Ok found
-Derives bytes due (Err (fault.Overflow pair)) = Overflows bytes pair
-Derives bytes due (Err fault.NoMemory) = ⊤
-Derives bytes due (Err bad) = due ≡ Err bad
+-- A step from a model: with something found of which this holds, with a refused pair, or for want of memory.
+abbrev pub Finds : {X : Type 0} → (X → Model → Type 0) → Model → Result X DeriveFault → Type 0
+Finds Holds model (Ok found) = Holds found model
+Finds Holds model (Err (fault.Overflow pair)) = IsTooLarge pair model
+Finds Holds model (Err fault.NoMemory) = ⊤
+Finds Holds model (Err bad) = ⊥
 
--- how a check of a model ends: without a refusal, with the one that is due, with a refused pair, or for want of memory
-abbrev pub Settles : {X : Type 0} → Model → Result Model DeriveFault → Result X DeriveFault → Type 0
-Settles model due (Ok found) = due ≡ Ok model
-Settles model due (Err (fault.Overflow pair)) = IsTooLarge model pair
-Settles model due (Err fault.NoMemory) = ⊤
-Settles model due (Err bad) = due ≡ Err bad
+-- a check of a model: without a refusal where this holds, with the one that is due, with a refused pair, or for want of memory
+abbrev pub Settles : {X : Type 0} → (X → Model → Type 0) → Model → Result X DeriveFault → Type 0
+Settles Holds model (Ok found) = Holds found model
+Settles Holds model (Err (fault.Overflow pair)) = IsTooLarge pair model
+Settles Holds model (Err fault.NoMemory) = ⊤
+Settles Holds model (Err bad) = IsRefused model bad
 
--- how the acceptance of a file ends: with the model that is due and its tensors, or as its derivation ends
-pub record IsAccepted (bytes : List ℕ) (found : Accepted) : Type 0 where
-  pub reads : reading bytes ≡ Ok found.model
-  pub due : accepted bytes ≡ Ok found.model
-  pub valid : IsValid found.model
-  pub tensors : IsExpansion found.model found.tensors
-
-abbrev pub Accepts : List ℕ → Result Accepted DeriveFault → Type 0
-Accepts bytes (Ok found) = IsAccepted bytes found
-Accepts bytes (Err (fault.Overflow pair)) = Overflows bytes pair
-Accepts bytes (Err fault.NoMemory) = ⊤
-Accepts bytes (Err bad) = accepted bytes ≡ Err bad
+-- a step from a file's bytes: with something of which this holds, with the refusal that is due, with a refused pair, or for want of memory
+abbrev pub Derives : {X : Type 0} → (X → Model → Type 0) → List ℕ → Result X DeriveFault → Type 0
+Derives Holds bytes (Ok found) = Stands bytes (Holds found)
+Derives Holds bytes (Err (fault.Overflow pair)) = Overflows bytes pair
+Derives Holds bytes (Err fault.NoMemory) = ⊤
+Derives Holds bytes (Err bad) = IsRefusal bytes bad

@@ -1,2 +1,16 @@
+pub mod Targets
+pub mod Blocks
+pub mod YukawaBlocks
+pub mod Surveys
+pub mod SurveySteps
+pub mod Components
+pub mod SideBetas
+pub mod Outcomes
+pub mod TermFaults
+pub mod FirstFaults
+pub mod LineSteps
+pub mod Lines
+pub mod Works
 pub mod Derivation
+pub mod Acceptance
 pub mod Faults

@@ -1,11 +1,12 @@
 //! The lines of gauge couplings.
-ghost use Rattle.std.specs.Prelude.{◌≡◌, ◌≤◌, ◌++◌, length, map, slice_get, Some, Ok, OnOk};
+ghost use Rattle.std.specs.Prelude.{◌≡◌, ◌≤◌, ◌++◌, length, map, slice_get, Some, OnOk};
 ghost use Rattle.std.specs.List.{enumerate_from};
 ghost use Rattle.model_core.specs.GaugeBeta.{gauge_one_loop};
 ghost use Rattle.model_core.specs.GaugeTwoLoop.{gauge_two_loop};
 ghost use Rattle.model_core.specs.Valid.{IsValid};
 ghost use Rattle.term_expand.specs.Expansion.{IsExpansion};
-ghost use Rattle.derive_core.specs.Derivation.{gauge_line, second_of, lines, Finds};
+ghost use Rattle.derive_core.specs.Derivation.{Finds};
+ghost use Rattle.derive_core.specs.Lines.{gauge_line, second_of, gauge_lines};
 
 use crate::accept::Accepted;
 use crate::betas::{Line, LineList};
@@ -23,7 +24,7 @@ use std::thread::Threads;
 fn coefficient_of(model: &Model, place: u32, group: &Group) -> Result<Frac, DeriveFault>
     requires valid { IsValid model.now }
     requires group { slice_get model.now.groups place ≡ Some group.now }
-    ensures { Finds model.now (Ok (gauge_one_loop model.now place group.now)) result }
+    ensures { Finds (λ value m. value ≡ gauge_one_loop m place group.now) model.now result }
 {
     match gauge_one(model, place) {
         Ok(value) => Ok(value),
@@ -35,7 +36,7 @@ fn coefficient_of(model: &Model, place: u32, group: &Group) -> Result<Frac, Deri
 fn gauge_line(alloc: Global, model: &Model, place: u32, group: &Group) -> Result<Line, DeriveFault>
     requires valid { IsValid model.now }
     requires group { slice_get model.now.groups place ≡ Some group.now }
-    ensures { Finds model.now (Ok (gauge_line model.now (place, group.now))) result }
+    ensures { Finds (λ line m. line ≡ gauge_line m (place, group.now)) model.now result }
 {
     let symbol = Symbol {
         id: place as u16,
@@ -54,7 +55,7 @@ fn gauge_line(alloc: Global, model: &Model, place: u32, group: &Group) -> Result
 /// The one-loop lines of a model.
 fn first_lines(alloc: Global, model: &Model) -> Result<LineList, DeriveFault>
     requires { IsValid model.now }
-    ensures { Finds model.now (Ok (map (gauge_line model.now) (enumerate_from 0 model.now.groups))) result }
+    ensures { Finds (λ lines m. lines ≡ map (gauge_line m) (enumerate_from 0 m.groups)) model.now result }
 {
     let mut lines = LineList::new(alloc);
     for place in 0..model.groups.len() {
@@ -76,7 +77,7 @@ fn second_values<R: Threads + Sync, G: Gate>(
     requires tensors { IsExpansion accepted.now.model accepted.now.tensors }
     requires low { 1 ≤ workers }
     requires high { workers ≤ 64 }
-    ensures { Finds accepted.now.model (Ok (map (gauge_two_loop accepted.now.model) (enumerate_from 0 accepted.now.model.groups))) result }
+    ensures { Finds (λ values m. values ≡ map (gauge_two_loop m) (enumerate_from 0 m.groups)) accepted.now.model result }
 {
     match gauge_two(rt, alloc, &accepted.model, &accepted.tensors, workers, gate) {
         Ok(values) => Ok(values),
@@ -104,8 +105,8 @@ fn push_second_lines(
     Ok(())
 }
 
-/// The lines of a model to one loop or two.
-pub fn lines_of<R: Threads + Sync, G: Gate>(
+/// The lines of the gauge couplings, to one loop or two.
+pub fn gauge_lines_of<R: Threads + Sync, G: Gate>(
     rt: &R,
     alloc: Global,
     accepted: &Accepted,
@@ -117,7 +118,7 @@ pub fn lines_of<R: Threads + Sync, G: Gate>(
     requires tensors { IsExpansion accepted.now.model accepted.now.tensors }
     requires low { 1 ≤ workers }
     requires high { workers ≤ 64 }
-    ensures { Finds accepted.now.model (Ok (lines loops accepted.now.model)) result }
+    ensures { Finds (λ lines m. lines ≡ gauge_lines loops m) accepted.now.model result }
 {
     let mut lines = first_lines(alloc, &accepted.model)?;
     if loops != 2 {

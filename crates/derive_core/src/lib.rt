@@ -3,9 +3,17 @@
 
 mod accept;
 mod betas;
+mod block_betas;
+mod block_lines;
+mod block_names;
+mod coupling_lines;
+mod dependence;
 mod fault;
 mod gauge_lines;
+mod lines;
+mod outcomes;
 mod pipeline;
+mod survey;
 mod targets;
 
 pub use betas::{Betas, Checked, Line, LineList, Target, TargetList, TokenNames};

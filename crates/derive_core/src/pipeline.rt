@@ -1,13 +1,14 @@
 //! The derivation of beta functions, and the check of a file.
-ghost use Rattle.std.specs.Prelude.{◌≤◌, Ok};
+ghost use Rattle.std.specs.Prelude.{◌≤◌};
 ghost use Rattle.model_core.specs.Valid.{IsValid};
 ghost use Rattle.term_expand.specs.Expansion.{IsExpansion};
-ghost use Rattle.derive_core.specs.Derivation.{betas_of, derivation, checked, Finds, Derives};
+ghost use Rattle.derive_core.specs.Acceptance.{HaveSolvers};
+ghost use Rattle.derive_core.specs.Derivation.{AreBetas, AreDerived, IsChecked, Finds, Derives};
 
 use crate::accept::{Accepted, accept};
 use crate::betas::{Betas, Checked};
 use crate::fault::DeriveFault;
-use crate::gauge_lines::lines_of;
+use crate::lines::lines_of;
 use crate::targets::targets_of;
 use contraction_workers::Gate;
 use std::alloc::Global;
@@ -24,9 +25,10 @@ fn betas_of<R: Threads + Sync, G: Gate>(
 ) -> Result<Betas, DeriveFault>
     requires valid { IsValid accepted.now.model }
     requires tensors { IsExpansion accepted.now.model accepted.now.tensors }
+    requires solvers { HaveSolvers accepted.now.model accepted.now.solvers }
     requires low { 1 ≤ workers }
     requires high { workers ≤ 64 }
-    ensures { Finds accepted.now.model (Ok (betas_of loops accepted.now.model)) result }
+    ensures { Finds (AreBetas loops) accepted.now.model result }
 {
     let model = &accepted.model;
     Ok(Betas {
@@ -38,8 +40,8 @@ fn betas_of<R: Threads + Sync, G: Gate>(
 }
 
 /// Derives the beta functions of the model file that the bytes are, as far as they are built: those of the gauge
-/// couplings, to one loop or two. It refuses, in this order, the file's first bad place, the first failure of a term, and
-/// the first anomaly.
+/// couplings, to one loop or two, and those of the Yukawa couplings with the open and the generated blocks of fermions. It
+/// refuses, in this order, the file's first bad place, the first fault of a term, and the first anomaly.
 ///
 /// `loops` is 1 or 2; `workers` is 1 to 64, and no result depends on it. `Overflow` comes only for a model that has a
 /// term, or a charge that isn't a multiple of 1/6 or is above 10 in size.
@@ -55,7 +57,7 @@ pub fn derive<R: Threads + Sync, G: Gate>(
     requires most_loops { loops ≤ 2 }
     requires low { 1 ≤ workers }
     requires high { workers ≤ 64 }
-    ensures { Derives bytes.now (derivation loops bytes.now) result }
+    ensures { Derives (AreDerived loops) bytes.now result }
 {
     let accepted = accept(alloc, bytes)?;
     betas_of(rt, alloc, &accepted, loops, workers, gate)
@@ -72,7 +74,7 @@ pub fn check<R: Threads + Sync, G: Gate>(
 ) -> Result<Checked, DeriveFault>
     requires low { 1 ≤ _workers }
     requires high { _workers ≤ 64 }
-    ensures { Derives bytes.now (checked bytes.now) result }
+    ensures { Derives IsChecked bytes.now result }
 {
     let accepted = accept(alloc, bytes)?;
     Ok(Checked {

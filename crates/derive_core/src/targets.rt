@@ -3,7 +3,7 @@ ghost use Rattle.std.specs.Prelude.{◌≡◌, ◌≤◌, ◌++◌, map, IfOk, O
 ghost use Rattle.std.specs.List.{flat_map};
 ghost use Rattle.model_core.specs.Valid.{IsValid};
 ghost use Rattle.model_core.specs.Directions.{cells_in};
-ghost use Rattle.derive_core.specs.Derivation.{gauge_target, index_in, cell_target, term_targets, targets};
+ghost use Rattle.derive_core.specs.Targets.{gauge_target, index_in, cell_target, term_targets, targets};
 
 use crate::betas::{Target, TargetList};
 use model_core::{Group, Model, Shape, Term, first_column};

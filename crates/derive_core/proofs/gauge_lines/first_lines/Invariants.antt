@@ -1,6 +1,6 @@
 use Rattle.std.proofs.Common.{◌≡◌, ◌++◌, drop, map}
 use Rattle.std.specs.List.{enumerate_from}
-use Rattle.derive_core.specs.Derivation.{gauge_line}
+use Rattle.derive_core.specs.Lines.{gauge_line}
 use Rattle.derive_core.proofs.gauge_lines.first_lines.Given as goal
 
 -- the lines so far, and then those of the groups that are left

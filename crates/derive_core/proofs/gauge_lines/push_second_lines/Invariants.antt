@@ -1,6 +1,6 @@
 use Rattle.std.proofs.Common.{◌≡◌, ◌++◌, drop, map}
 use Rattle.std.specs.List.{enumerate_from}
-use Rattle.derive_core.specs.Derivation.{second_of}
+use Rattle.derive_core.specs.Lines.{second_of}
 use Rattle.derive_core.proofs.gauge_lines.push_second_lines.Given as goal
 
 -- the lines so far, and then those of the beta functions that are left

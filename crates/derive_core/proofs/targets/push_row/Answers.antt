@@ -1,6 +1,6 @@
 use Rattle.std.proofs.Common.{◌≡◌, ◌+◌, ◌-◌, ◌<◌, ◌≤◌, suc, ◌++◌, ◌∷◌, [], ◌∙◌, sym, ap, map, arith}
 use Rattle.model_core.specs.Content.{first_column}
-use Rattle.derive_core.specs.Derivation.{cell_target}
+use Rattle.derive_core.specs.Targets.{cell_target}
 use Rattle.derive_core.proofs.TargetLists.{cells_from, row_step, row_end}
 use Rattle.derive_core.proofs.targets.push_row.Goals as goal
 

@@ -1,6 +1,6 @@
 use Rattle.std.proofs.Common.{◌≡◌, ◌++◌, map}
 use Rattle.model_core.specs.Directions.{cells_in}
-use Rattle.derive_core.specs.Derivation.{cell_target}
+use Rattle.derive_core.specs.Targets.{cell_target}
 use Rattle.derive_core.proofs.TargetLists.{cells_from}
 use Rattle.derive_core.proofs.targets.push_row.Given as goal
 

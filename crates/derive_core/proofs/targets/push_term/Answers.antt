@@ -1,5 +1,5 @@
 use Rattle.std.proofs.Common.{◌+◌, ◌++◌, ◌∙◌, sym, ap, map}
-use Rattle.derive_core.specs.Derivation.{cell_target}
+use Rattle.derive_core.specs.Targets.{cell_target}
 use Rattle.derive_core.proofs.TargetLists.{rows_from, term_step, term_end}
 use Rattle.derive_core.proofs.targets.push_term.Goals as goal
 

@@ -1,5 +1,5 @@
 use Rattle.std.proofs.Common.{◌≡◌, ◌++◌, map}
-use Rattle.derive_core.specs.Derivation.{cell_target, term_targets}
+use Rattle.derive_core.specs.Targets.{cell_target, term_targets}
 use Rattle.derive_core.proofs.TargetLists.{rows_from}
 use Rattle.derive_core.proofs.targets.push_term.Given as goal
 

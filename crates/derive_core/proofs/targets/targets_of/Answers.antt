@@ -1,6 +1,6 @@
 use Rattle.std.proofs.Common.{◌++◌, ◌∙◌, sym, ap, map}
 use Rattle.std.specs.List.{flat_map}
-use Rattle.derive_core.specs.Derivation.{gauge_target, term_targets}
+use Rattle.derive_core.specs.Targets.{gauge_target, term_targets}
 use Rattle.derive_core.proofs.TargetLists.{targets_are}
 use Rattle.derive_core.proofs.targets.targets_of.Goals as goal
 

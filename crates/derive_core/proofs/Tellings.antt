@@ -1,0 +1,135 @@
+-- The loops over directions and entries that tell of their blocks.
+use Rattle.std.proofs.Common.{◌≡◌, ◌≢◌, ℕ, zero, suc, ◌+◌, ◌≤◌, ◌<◌, Bool, true, false, List, [], ◌∷◌, ◌++◌, length, Option, Some, None, Result, Ok, Err, refl, sym, ap, subst, ◌∙◌, inl, inr, arith, true≢false}
+use Rattle.std.specs.Prelude.{◌⊎◌, if◌then◌else◌, slice_get, IfOk}
+use Rattle.std.proofs.lemmas.List.{length-append}
+use Rattle.beta_poly.specs.Polynomial.{Polynomial, zero_poly}
+use Rattle.sparse_tensor.specs.Tensor.{Tensor, HasValues, rank_of, entries_of, value}
+use Rattle.sparse_tensor.specs.declared.fault.TensorFault.{TensorFault}
+use Rattle.model_core.specs.declared.model.Model.{Model}
+use Rattle.model_core.specs.declared.term.TermKind.{TermKind}
+use Rattle.model_core.specs.declared.term.TermKind.TheVariants.{Fermion, Scalar}
+use Rattle.model_core.specs.Content.{is_before, is_fermionic}
+use Rattle.model_core.specs.Directions.{Direction, directions}
+use Rattle.model_core.specs.Valid.{IsValid}
+use Rattle.term_expand.specs.declared.directions.Direction.{Direction as Found}
+use Rattle.term_expand.specs.declared.token.Token.{Token}
+use Rattle.term_expand.specs.Expansion.{AreDirections, IsDirection}
+use Rattle.term_expand.specs.Texts.{leg_count}
+use Rattle.derive_core.specs.Blocks.{name_of}
+use Rattle.derive_core.specs.Outcomes.{IsAmong}
+use Rattle.derive_core.specs.Works.{AreSome, AreKept, TellsOf, MayBeTold, TellsDirections, AreDirectionsTold, TellsEntries, AreEntriesTold, IsEntryKey}
+use Rattle.derive_core.specs.YukawaBlocks.{order_of_token, in_order, name_at, side_beta}
+use Rattle.derive_core.specs.declared.outcomes.Told.{Told}
+use Rattle.derive_core.proofs.BlockNumbers.{meant_at, IsMeantAt}
+use Rattle.derive_core.proofs.Elements.{in_at}
+use Rattle.derive_core.proofs.Surveyed.{named_legs}
+use Rattle.derive_core.proofs.TellingSteps.{none_told, coupling_told, beta_told}
+use Rattle.derive_core.proofs.TensorEntries.{entry_long, value_nonzero}
+
+-- ---- directions
+
+le_split : (p n : ℕ) → p ≤ n → (p < n) ⊎ (p ≡ n)
+le_split zero zero h = inr refl
+le_split zero (suc n) h = inl (omega arith)
+le_split (suc p) zero h = let never : ⊥ = omega arith in absurd never
+le_split (suc p) (suc n) h = elim (le_split p n (omega arith)) [ inl less ↦ inl (omega arith) | inr same ↦ inr (ap suc same) ]
+
+same_direction : (x y : Direction) → Some x ≡ Some y → x ≡ y
+same_direction x y same = cc
+
+rank_of_kind : (kind : TermKind) → is_fermionic kind ≡ true → 1 + leg_count kind ≡ 4
+rank_of_kind Fermion is = refl
+rank_of_kind Scalar is = absurd (true≢false (sym is))
+
+kind_of_rank : (kind : TermKind) → 1 + leg_count kind ≡ 4 → (is_fermionic kind ≡ true) × (leg_count kind ≡ 3)
+kind_of_rank Fermion is = (refl, refl)
+kind_of_rank Scalar is = let never : ⊥ = omega (arith, is) in absurd never
+
+module _ (model : Model) (founds : List Found) (all : AreDirections (directions model) founds) (place : ℕ) (found : Found) (at : slice_get founds place ≡ Some found) where
+  abbrev meant : IsMeantAt (directions model) place found
+  meant = meant_at (directions model) founds place found all at
+
+  -- a direction of four legs has nothing to tell
+  pub scalar_direction : (told : List Told) → (rank_of found.tensor ≡ 4 → ⊥) → AreDirectionsTold model place told → AreDirectionsTold model (place + 1) told
+  scalar_direction told other before =
+      record {
+        some = before.some;
+        tells = λ p direction within stands fermionic. elim (le_split p place (omega arith)) [
+          | inl less ↦ before.tells p direction less stands fermionic
+          | inr same ↦
+              let is : direction ≡ meant.meant = same_direction direction meant.meant (sym stands ∙ ap (slice_get (directions model)) same ∙ meant.stands) in
+              absurd (other (meant.is.numbers.rank_is ∙ ap (λ d. 1 + leg_count d.kind) (sym is) ∙ rank_of_kind direction.kind fermionic))
+        ];
+      }
+
+  -- a Yukawa coupling's name may be told
+  pub direction_told : IsValid model → rank_of found.tensor ≡ 4 → MayBeTold model found.block
+  direction_told valid rank =
+      let kind = kind_of_rank meant.meant.kind (sym meant.is.numbers.rank_is ∙ rank) in
+      subst (MayBeTold model) (sym meant.is.block)
+      (coupling_told model place meant.meant meant.stands kind.0 (named_legs model meant.meant valid (in_at (directions model) place meant.meant meant.stands) ∙ kind.1))
+
+  pub direction_more : (told new : List Told) → AreDirectionsTold model place told → TellsOf model found.block told new → AreDirectionsTold model (place + 1) new
+  direction_more told new before more =
+      record {
+        some = more.some;
+        tells = λ p direction within stands fermionic. elim (le_split p place (omega arith)) [
+          | inl less ↦ more.kept (name_of direction) (before.tells p direction less stands fermionic)
+          | inr same ↦
+              let is : direction ≡ meant.meant = same_direction direction meant.meant (sym stands ∙ ap (slice_get (directions model)) same ∙ meant.stands) in
+              subst (λ n. IsAmong n new) (meant.is.block ∙ ap name_of (sym is)) more.among
+        ];
+      }
+
+pub directions_more : (model : Model) (founds : List Found) (place : ℕ) (found : Found) (told : List Told) (r : Result (List Told) TensorFault) → AreDirections (directions model) founds → slice_get founds place ≡ Some found
+    → AreDirectionsTold model place told → IfOk r (TellsOf model found.block told) → IfOk r (AreDirectionsTold model (place + 1))
+directions_more model founds place found told (Ok new) all at before more = direction_more model founds all place found at told new before more
+directions_more model founds place found told (Err bad) all at before more = tt
+
+pub no_directions_told : (model : Model) → AreDirectionsTold model 0 []
+no_directions_told model = record { some = none_told model; tells = λ p direction within stands fermionic. let never : ⊥ = omega arith in absurd never }
+
+-- ---- entries
+
+in_order-length : (b : Bool) (x y : Token) → length (if b then y ∷ x ∷ [] else x ∷ y ∷ []) ≡ 2
+in_order-length true x y = refl
+in_order-length false x y = refl
+
+three_tokens : (xs : List Token) (x : Token) → length xs ≡ 2 → length (xs ++ x ∷ []) ≡ 3
+three_tokens xs x two = length-append xs (x ∷ []) ∙ ap (λ n. n + 1) two
+
+name_length : (model : Model) (side : ℕ) (key : List ℕ) → length key ≡ 3 → length (name_at model (side ∷ key)) ≡ 3
+name_length model side (j ∷ k ∷ a ∷ []) three = three_tokens _ _ (in_order-length _ _ _)
+name_length model side [] three = let never : ⊥ = omega (arith, three) in absurd never
+name_length model side (j ∷ []) three = let never : ⊥ = omega (arith, three) in absurd never
+name_length model side (j ∷ k ∷ []) three = let never : ⊥ = omega (arith, three) in absurd never
+name_length model side (j ∷ k ∷ a ∷ b ∷ rest) three = let never : ⊥ = omega (arith, three) in absurd never
+
+pub entry_told : (model : Model) (side : ℕ) (key : List ℕ) → IsEntryKey model side key → MayBeTold model (name_at model (side ∷ key))
+entry_told model side key is = beta_told model side key (name_length model side key is.long) is.other
+
+pub entry_key : (model : Model) (side : ℕ) (t : Tensor) (place : ℕ) (e : List ℕ × Polynomial) → HasValues 3 (side_beta model side) t → slice_get (entries_of t) place ≡ Some e → IsEntryKey model side e.0
+entry_key model side t place e has there =
+    let long = entry_long 3 t place e has.rank_is there in
+    record { long = long; other = λ none. value_nonzero t place e there (has.value_is e.0 long ∙ none) }
+
+same_entry : (x y : List ℕ × Polynomial) → Some x ≡ Some y → x ≡ y
+same_entry x y same = cc
+
+pub entries_more : (model : Model) (side : ℕ) (t : Tensor) (place : ℕ) (e : List ℕ × Polynomial) (old told new : List Told) → slice_get (entries_of t) place ≡ Some e
+    → AreEntriesTold model side t place old told → TellsOf model (name_at model (side ∷ e.0)) told new → AreEntriesTold model side t (place + 1) old new
+entries_more model side t place e old told new there before more =
+    record {
+      some = more.some;
+      kept = λ name among. more.kept name (before.kept name among);
+      tells = λ p d within stands. elim (le_split p place (omega arith)) [
+        | inl less ↦ more.kept (name_at model (side ∷ d.0)) (before.tells p d less stands)
+        | inr same ↦
+            let is : d ≡ e = same_entry d e (sym stands ∙ ap (slice_get (entries_of t)) same ∙ there) in
+            subst (λ x. IsAmong (name_at model (side ∷ x.0)) new) (sym is) more.among
+      ];
+    }
+
+pub no_entries_told : (model : Model) (side : ℕ) (t : Tensor) (told : List Told) → AreSome model told → AreEntriesTold model side t 0 told told
+no_entries_told model side t told some =
+    record { some = some; kept = λ name among. among; tells = λ p d within stands. let never : ⊥ = omega arith in absurd never }

@@ -1,0 +1,4 @@
+use Rattle.derive_core.proofs.outcomes.bare_outcome.Goals as goal
+
+pub outcome_of-requires-clause-block : goal.outcome_of-requires-clause-block
+outcome_of-requires-clause-block g c κs within = c.bare-block.ensures.rank 4

@@ -1,0 +1,36 @@
+-- The beta tensor and its conjugate on the sides of blocks, and the values of both that belong to a block.
+use Rattle.std.specs.Prelude.{◌≡◌, ℕ, Bool, if◌then◌else◌, List, [], ◌∷◌, get_or, slice_get, option_map}
+use Rattle.std.specs.List.{flat_map}
+use Rattle.beta_poly.specs.Polynomial.{Polynomial, conj_poly}
+use Rattle.sparse_tensor.specs.declared.values.Value.{Value}
+use Rattle.sparse_tensor.specs.Tensor.{Entries, HasValues}
+use Rattle.model_core.specs.declared.model.Model.{Model}
+use Rattle.model_core.specs.Scalar.{scalar_coordinates, partner}
+use Rattle.term_expand.specs.declared.token.Token.{Token}
+use Rattle.term_expand.specs.Multiples.{entry_on_side}
+use Rattle.span_solver.specs.BlockDirections.{same_name}
+use Rattle.beta_formulas.specs.YukawaBeta.{yukawa_beta_at}
+use Rattle.derive_core.specs.YukawaBlocks.{name_at, conjugate_beta_at}
+use Rattle.derive_core.specs.declared.block_betas.SideBetas.{SideBetas}
+
+-- the beta tensor on side 0, and the conjugate one on side 1
+pub record AreSideBetas (model : Model) (sides : SideBetas) : Type 0 where
+  pub plain : HasValues 3 (yukawa_beta_at model) sides.plain
+  pub conjugate : HasValues 3 (conjugate_beta_at model) sides.conjugate
+
+-- the conjugate value of an entry, at the partner of its scalar
+pub record IsConjugateValue (model : Model) (e : List ℕ × Polynomial) (v : Value) : Type 0 where
+  pub place : ℕ
+  pub key : v.key ≡ get_or e.0 0 0 ∷ get_or e.0 1 0 ∷ place ∷ []
+  pub partner_is : slice_get (scalar_coordinates model) place ≡ option_map partner (slice_get (scalar_coordinates model) (get_or e.0 2 0))
+  pub value : v.value ≡ conj_poly e.1
+
+-- an entry on a side where it belongs to the block, or nothing
+abbrev pub where_it_belongs : Bool → ℕ → List ℕ × Polynomial → List Value
+where_it_belongs belongs side e = if belongs then entry_on_side side e ∷ [] else []
+
+abbrev pub named_value : Model → List Token → ℕ → List ℕ × Polynomial → List Value
+named_value model name side e = where_it_belongs (same_name (name_at model (side ∷ e.0)) name) side e
+
+abbrev pub named_values : Model → List Token → ℕ → Entries → List Value
+named_values model name side es = flat_map (named_value model name side) es

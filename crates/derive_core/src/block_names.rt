@@ -1,0 +1,228 @@
+//! The names of blocks, and the block to which a component belongs.
+ghost use Rattle.std.specs.Prelude.{◌≡◌, ◌∷◌, [], Some, length, slice_get, IfOk};
+ghost use Rattle.std.specs.Ordering.{};
+ghost use Rattle.model_core.specs.Content.{is_before, is_real};
+ghost use Rattle.model_core.specs.Valid.{IsValid};
+ghost use Rattle.term_expand.specs.Tokens.{dummy_token};
+ghost use Rattle.span_solver.specs.BlockDirections.{same_token, same_name};
+ghost use Rattle.derive_core.specs.Components.{IsComponents};
+ghost use Rattle.derive_core.specs.YukawaBlocks.{order_of_token, name_cmp, component_token, partner_token, fermion_token, scalar_token, in_order, name_at};
+
+use model_core::{FieldComponent, FieldComponentList, Model, fermion_list, scalar_list};
+use std::alloc::{AllocError, Global};
+use std::cmp::Ordering;
+use term_expand::{BlockName, Token};
+
+/// The components of a model.
+#[derive(Drop)]
+pub struct Components {
+    pub fermions: FieldComponentList,
+    /// The scalar coordinates without the dummy.
+    pub scalars: FieldComponentList,
+}
+
+/// The components of a model.
+pub fn components_of(alloc: Global, model: &Model) -> Result<Components, AllocError>
+    requires { IsValid model.now }
+    ensures { IfOk result (IsComponents model.now) }
+{
+    Ok(Components {
+        fermions: fermion_list(alloc, model)?,
+        scalars: scalar_list(alloc, model)?,
+    })
+}
+
+/// Whether two tokens are the same.
+fn same_token(a: &Token, b: &Token) -> bool
+    ensures { result ≡ same_token a.now b.now }
+{
+    if a.fermion != b.fermion {
+        return false;
+    }
+    if a.field != b.field {
+        return false;
+    }
+    if a.conj != b.conj {
+        return false;
+    }
+    if a.generation != b.generation {
+        return false;
+    }
+    a.dummy == b.dummy
+}
+
+/// Whether two names are the same.
+pub fn same_name(a: &[Token], b: &[Token]) -> bool
+    ensures { result ≡ same_name a.now b.now }
+{
+    match a {
+        [] => match b {
+            [] => true,
+            [_, ..] => false,
+        },
+        [first, a @ ..] => match b {
+            [] => false,
+            [second, b @ ..] => same_token(first, second) && same_name(a, b),
+        },
+    }
+}
+
+/// The order of tokens: fermions before scalars, and the dummy last; then by field, then a field before its conjugate, then
+/// by generation.
+fn token_cmp(a: &Token, b: &Token) -> Ordering
+    ensures { result ≡ order_of_token a.now b.now }
+{
+    let by_dummy = a.dummy.cmp(&b.dummy);
+    let by_kind = b.fermion.cmp(&a.fermion);
+    let by_field = a.field.cmp(&b.field);
+    let by_side = a.conj.cmp(&b.conj);
+    let by_generation = a.generation.cmp(&b.generation);
+    by_dummy.then(by_kind.then(by_field.then(by_side.then(by_generation))))
+}
+
+/// The order of names: that of words, by their tokens.
+pub fn name_cmp(a: &[Token], b: &[Token]) -> Ordering
+    ensures { result ≡ name_cmp a.now b.now }
+{
+    match a {
+        [] => match b {
+            [] => Ordering::Equal,
+            [_, ..] => Ordering::Less,
+        },
+        [first, a @ ..] => match b {
+            [] => Ordering::Greater,
+            [second, b @ ..] => token_cmp(first, second).then(name_cmp(a, b)),
+        },
+    }
+}
+
+/// The token of the dummy.
+fn dummy_token() -> Token
+    ensures { result ≡ dummy_token }
+{
+    Token {
+        fermion: false,
+        field: 0,
+        conj: false,
+        generation: 0,
+        dummy: true,
+    }
+}
+
+/// The token of a component.
+fn component_token(fermion: bool, component: &FieldComponent) -> Token
+    ensures { result ≡ component_token fermion component.now }
+{
+    Token {
+        fermion,
+        field: component.field,
+        conj: component.conj,
+        generation: component.generation,
+        dummy: false,
+    }
+}
+
+/// Whether a scalar component is one of a real field.
+fn is_real(model: &Model, component: &FieldComponent) -> bool
+    ensures { result ≡ is_real (slice_get model.now.scalars component.now.field) }
+{
+    match model.scalars.as_slice().get(component.field as usize) {
+        Some(field) => field.real,
+        None => false,
+    }
+}
+
+/// The token of the partner of a scalar component: a real field's has the same one.
+fn partner_token(model: &Model, component: &FieldComponent) -> Token
+    ensures { result ≡ partner_token model.now component.now }
+{
+    if is_real(model, component) {
+        return component_token(false, component);
+    }
+    Token {
+        fermion: false,
+        field: component.field,
+        conj: !component.conj,
+        generation: component.generation,
+        dummy: false,
+    }
+}
+
+/// The token of a fermion's place, that of the dummy where none is there.
+fn fermion_token(fermions: &[FieldComponent], place: u32) -> Token
+    ensures { result ≡ fermion_token (slice_get fermions.now place) }
+{
+    match fermions.get(place as usize) {
+        Some(component) => component_token(true, component),
+        None => dummy_token(),
+    }
+}
+
+/// The token of a scalar component on a side: on side 1 that of its partner.
+fn token_on_side(model: &Model, side: u32, component: &FieldComponent) -> Token
+    ensures { result ≡ scalar_token model.now side (Some component.now) }
+{
+    if side == 0 {
+        return component_token(false, component);
+    }
+    partner_token(model, component)
+}
+
+/// The token of a scalar's place on a side, and behind the scalars that of the dummy.
+fn scalar_token(model: &Model, scalars: &[FieldComponent], side: u32, place: u32) -> Token
+    ensures { result ≡ scalar_token model.now side (slice_get scalars.now place) }
+{
+    match scalars.get(place as usize) {
+        Some(component) => token_on_side(model, side, component),
+        None => dummy_token(),
+    }
+}
+
+/// Whether an order says that the first comes before the second.
+fn is_before(order: Ordering) -> bool
+    ensures { result ≡ is_before order }
+{
+    matches!(order, Ordering::Less)
+}
+
+/// Two tokens.
+fn pair_of(alloc: Global, first: Token, second: Token) -> Result<BlockName, AllocError>
+    ensures { IfOk result (λ found. found ≡ first ∷ second ∷ []) }
+{
+    let mut found = BlockName::new(alloc);
+    found.push(first)?;
+    found.push(second)?;
+    Ok(found)
+}
+
+/// Two tokens in their order.
+fn in_order(alloc: Global, a: Token, b: Token) -> Result<BlockName, AllocError>
+    ensures { IfOk result (λ found. found ≡ in_order a b) }
+{
+    if is_before(token_cmp(&b, &a)) {
+        return pair_of(alloc, b, a);
+    }
+    pair_of(alloc, a, b)
+}
+
+/// The name of the block to which a component belongs: the place of the component is that of its two fermions and of its
+/// scalar.
+pub fn name_at(
+    alloc: Global,
+    model: &Model,
+    components: &Components,
+    side: u32,
+    places: &[u32],
+) -> Result<BlockName, AllocError>
+    requires components { IsComponents model.now components.now }
+    requires places { length places.now ≡ 3 }
+    ensures name { IfOk result (λ found. found ≡ name_at model.now (side ∷ places.now)) }
+{
+    let fermions = components.fermions.as_slice();
+    let first = fermion_token(fermions, places[0]);
+    let second = fermion_token(fermions, places[1]);
+    let scalar = scalar_token(model, components.scalars.as_slice(), side, places[2]);
+    let mut name = in_order(alloc, first, second)?;
+    name.push(scalar)?;
+    Ok(name)
+}
