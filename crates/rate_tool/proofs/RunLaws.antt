@@ -1,9 +1,9 @@
--- The status of a run where no stream fails.
-use Rattle.std.proofs.Common.{◌≡◌, ℕ, ◌≤◌, ◌<◌, true, false, cond, List, ◌++◌, length, length-append, Option, Some, None, Result, Ok, Err, refl, sym, subst, ap, ◌∙◌, arith, inl, inr}
-use Rattle.std.specs.Prelude.{◌⊎◌, nat_lt}
+-- The status of a run: the one that is due, and what else it may be.
+use Rattle.std.proofs.Common.{◌≡◌, ℕ, List, ◌++◌, length, length-append, Option, Some, None, Result, Ok, Err, refl, sym, subst, ap, ◌∙◌, arith, inl, inr}
+use Rattle.std.specs.Prelude.{◌⊎◌, ◌≤◌, ◌<◌}
+use Rattle.frac128.specs.declared.frac.Overflow.{Overflow}
 use Rattle.std.specs.Option.{IfSome}
 use Rattle.std.proofs.lemmas.List.{append-nil}
-use Rattle.std.proofs.lemmas.Bool.Decides.{nat_tests}
 use Rattle.derive_core.specs.declared.fault.DeriveFault.{DeriveFault}
 use Rattle.derive_core.specs.declared.fault.DeriveFault.TheVariants as fault
 use Rattle.derive_core.specs.Derivation.{Overflows}
@@ -11,8 +11,9 @@ use Rattle.rate_tool.specs.declared.words.Command.{Command}
 use Rattle.rate_tool.specs.declared.status.Status.{Status}
 use Rattle.rate_tool.specs.declared.status.Status.TheVariants as status
 use Rattle.rate_tool.specs.Stream.{Rose}
-use Rattle.rate_tool.specs.Run.{limit, answer_to, status_of, status_for, IsOverflow, WasRead, WasTooLong}
-use Rattle.rate_tool.specs.Steps.{Streams, FileEnds}
+use Rattle.rate_tool.specs.Words.{command_of}
+use Rattle.rate_tool.specs.Run.{limit, status_of, IsAnswered, IsStatusFor, IsDueStatus, IsDue, IsOverflow, WasRead, WasTooLong}
+use Rattle.rate_tool.specs.Steps.{Streams, Answers, FileEnds}
 
 pub if_some : {A : Type 0} (P : A → Type 0) (found : Option A) → ((x : A) → found ≡ Some x → P x) → IfSome found P
 if_some P None each = tt
@@ -23,45 +24,73 @@ file_is : (left' : Option (List ℕ)) (bytes file : List ℕ) → WasRead (Some 
 file_is None bytes file read = absurd read.gave
 file_is (Some ys) bytes file read = sym (read.gave ∙ ap (λ t. file ++ t) read.ended ∙ append-nil file)
 
-not_long : (n : ℕ) → n ≤ limit → nat_lt limit n ≡ false
-not_long n short = grind (arith, nat_tests)
+-- what the command answers to the file that was read
+answered : (command : Command) (s : Streams) (bytes : List ℕ) (answer : Result (List ℕ) DeriveFault) → s.left ≡ Some bytes → Answers command s answer
+    → IsStatusFor (Some command) bytes (status_of answer)
+answered command s bytes answer told how =
+    let read : WasRead (Some bytes) s.left' how.file = subst (λ l. WasRead l s.left' how.file) told how.read in
+    let due : IsAnswered command how.file (status_of answer) = record { short = how.read.short; answer = answer; answers = how.answers; is = refl } in
+    inr (subst (λ b. IsAnswered command b (status_of answer)) (file_is s.left' bytes how.file read) due)
 
-answered : (command : Command) (left' : Option (List ℕ)) (bytes file : List ℕ) (answer : Result (List ℕ) DeriveFault) → WasRead (Some bytes) left' file → answer_to command file ≡ answer
-    → status_of answer ≡ status_for (Some command) bytes
-answered command left' bytes file answer read answers =
-    ap status_of (sym answers)
-    ∙ sym (ap (λ b. cond b status.TooLong (status_of (answer_to command file))) (not_long (length file) read.short))
-    ∙ ap (status_for (Some command)) (file_is left' bytes file read)
+-- more bytes than a file may have
+is_long : (left' : Option (List ℕ)) (bytes : List ℕ) → WasTooLong (Some bytes) left' → limit < length bytes
+is_long None bytes long = absurd long.gave
+is_long (Some ys) bytes long = omega (arith, ap length long.gave, length-append long.bytes ys, long.long)
 
-too_long : (command : Command) (left' : Option (List ℕ)) (bytes : List ℕ) → WasTooLong (Some bytes) left' → status.TooLong ≡ status_for (Some command) bytes
-too_long command None bytes long = absurd long.gave
-too_long command (Some ys) bytes long =
-    let more : limit < length bytes = omega (arith, ap length long.gave, length-append long.bytes ys, long.long) in
-    let test : nat_lt limit (length bytes) ≡ true = grind (arith, nat_tests) in
-    sym (ap (λ b. cond b status.TooLong (status_of (answer_to command bytes))) test)
+too_long : (command : Command) (s : Streams) (bytes : List ℕ) → s.left ≡ Some bytes → WasTooLong s.left s.left' → IsStatusFor (Some command) bytes status.TooLong
+too_long command s bytes told long = inl (is_long s.left' bytes (subst (λ l. WasTooLong l s.left') told long), refl)
 
--- a command over these bytes ends as it is due, for want of memory, or with a refused pair
-ends : (command : Command) (s : Streams) (bytes : List ℕ) (ended : Status) → s.left ≡ Some bytes → FileEnds command s ended → ¬ Rose s.reads s.reads' → ¬ Rose s.writes s.writes'
-    → (ended ≡ status_for (Some command) bytes) ⊎ ((ended ≡ status.NoMemory) ⊎ IsOverflow bytes ended)
-ends command s bytes status.Done told how quiet sure =
-    inl (answered command s.left' bytes how.answer.file (Ok how.text) (subst (λ l. WasRead l s.left' how.answer.file) told how.answer.read) how.answer.answers)
-ends command s bytes status.NoMemory told how quiet sure = inr (inl refl)
-ends command s bytes status.Usage told how quiet sure = absurd how
-ends command s bytes status.ReadFault told how quiet sure = absurd (quiet how)
-ends command s bytes status.TooLong told how quiet sure = inl (too_long command s.left' bytes (subst (λ l. WasTooLong l s.left') told how.0))
-ends command s bytes (status.Malformed bad) told how quiet sure =
-    inl (answered command s.left' bytes how.file (Err (fault.Read bad)) (subst (λ l. WasRead l s.left' how.file) told how.read) how.answers)
-ends command s bytes (status.BadTerm bad) told how quiet sure =
-    inl (answered command s.left' bytes how.file (Err (fault.Term bad)) (subst (λ l. WasRead l s.left' how.file) told how.read) how.answers)
-ends command s bytes (status.Anomalous bad) told how quiet sure =
-    inl (answered command s.left' bytes how.file (Err (fault.Anomalous bad)) (subst (λ l. WasRead l s.left' how.file) told how.read) how.answers)
-ends command s bytes (status.Overflow pair) told how quiet sure =
-    inr (inr (subst (λ b. Overflows b pair) (file_is s.left' bytes how.file (subst (λ l. WasRead l s.left' how.file) told how.read)) how.overflows))
-ends command s bytes status.WriteFault told how quiet sure = absurd (sure how.rose)
+-- the same of words that are the command
+asked_due : (words : List (List ℕ)) (command : Command) (bytes : List ℕ) (due : Status) → command_of words ≡ Some command → IsStatusFor (Some command) bytes due
+    → IsDueStatus words bytes due
+asked_due words command bytes due asked for = subst (λ o. IsStatusFor o bytes due) (sym asked) for
 
--- the same for words that are the command
-pub completed : (found : Option Command) (command : Command) (s : Streams) (bytes : List ℕ) (ended : Status) → found ≡ Some command → s.left ≡ Some bytes → FileEnds command s ended
-    → ¬ Rose s.reads s.reads' → ¬ Rose s.writes s.writes'
-    → (ended ≡ status_for found bytes) ⊎ ((ended ≡ status.NoMemory) ⊎ IsOverflow bytes ended)
-completed found command s bytes ended is told how quiet sure =
-    subst (λ o. (ended ≡ status_for o bytes) ⊎ ((ended ≡ status.NoMemory) ⊎ IsOverflow bytes ended)) (sym is) (ends command s bytes ended told how quiet sure)
+answer_due : (words : List (List ℕ)) (command : Command) (s : Streams) (bytes : List ℕ) (answer : Result (List ℕ) DeriveFault) → command_of words ≡ Some command
+    → s.left ≡ Some bytes → Answers command s answer → IsDueStatus words bytes (status_of answer)
+answer_due words command s bytes answer asked told how = asked_due words command bytes (status_of answer) asked (answered command s bytes answer told how)
+
+long_due : (words : List (List ℕ)) (command : Command) (s : Streams) (bytes : List ℕ) → command_of words ≡ Some command → s.left ≡ Some bytes
+    → WasTooLong s.left s.left' → IsDueStatus words bytes status.TooLong
+long_due words command s bytes asked told long = asked_due words command bytes status.TooLong asked (too_long command s bytes told long)
+
+-- words that are no command
+pub usage_due : (words : List (List ℕ)) (bytes : List ℕ) → command_of words ≡ None → IsDueStatus words bytes status.Usage
+usage_due words bytes none = subst (λ o. IsStatusFor o bytes status.Usage) (sym none) refl
+
+-- a refused pair
+overflow_of : (s : Streams) (bytes file : List ℕ) (pair : Overflow) → s.left ≡ Some bytes → WasRead s.left s.left' file → Overflows file pair → Overflows bytes pair
+overflow_of s bytes file pair told read overflows =
+    subst (λ b. Overflows b pair) (file_is s.left' bytes file (subst (λ l. WasRead l s.left' file) told read)) overflows
+
+short_of : (s : Streams) (bytes file : List ℕ) → s.left ≡ Some bytes → WasRead s.left s.left' file → length bytes ≤ limit
+short_of s bytes file told read = subst (λ b. length b ≤ limit) (file_is s.left' bytes file (subst (λ l. WasRead l s.left' file) told read)) read.short
+
+-- a command over these bytes ends as it is due, but for want of memory and faults of the streams, or with a refused pair
+pub due_ended : (words : List (List ℕ)) (command : Command) (s : Streams) (bytes : List ℕ) (ended : Status) → command_of words ≡ Some command → s.left ≡ Some bytes
+    → FileEnds command s ended → IsDue words bytes ended
+due_ended words command s bytes status.Done asked told how = answer_due words command s bytes (Ok how.text) asked told how.answer
+due_ended words command s bytes status.NoMemory asked told how = tt
+due_ended words command s bytes status.Usage asked told how = absurd how
+due_ended words command s bytes status.ReadFault asked told how = tt
+due_ended words command s bytes status.TooLong asked told how = long_due words command s bytes asked told how.0
+due_ended words command s bytes (status.Malformed bad) asked told how = answer_due words command s bytes (Err (fault.Read bad)) asked told how
+due_ended words command s bytes (status.BadTerm bad) asked told how = answer_due words command s bytes (Err (fault.Term bad)) asked told how
+due_ended words command s bytes (status.Anomalous bad) asked told how = answer_due words command s bytes (Err (fault.Anomalous bad)) asked told how
+due_ended words command s bytes (status.Overflow pair) asked told how =
+    record { command = command; asked = asked; short = short_of s bytes how.file told how.read; overflows = overflow_of s bytes how.file pair told how.read how.overflows }
+due_ended words command s bytes status.WriteFault asked told how = answer_due words command s bytes (Ok how.text) asked told how.answer
+
+-- where no count rose, as it is due, for want of memory, or with a refused pair
+pub completed : (words : List (List ℕ)) (command : Command) (s : Streams) (bytes : List ℕ) (ended : Status) → command_of words ≡ Some command → s.left ≡ Some bytes
+    → FileEnds command s ended → ¬ Rose s.reads s.reads' → ¬ Rose s.writes s.writes'
+    → IsDueStatus words bytes ended ⊎ ((ended ≡ status.NoMemory) ⊎ IsOverflow bytes ended)
+completed words command s bytes status.Done asked told how quiet sure = inl (due_ended words command s bytes status.Done asked told how)
+completed words command s bytes status.NoMemory asked told how quiet sure = inr (inl refl)
+completed words command s bytes status.Usage asked told how quiet sure = absurd how
+completed words command s bytes status.ReadFault asked told how quiet sure = absurd (quiet how)
+completed words command s bytes status.TooLong asked told how quiet sure = inl (due_ended words command s bytes status.TooLong asked told how)
+completed words command s bytes (status.Malformed bad) asked told how quiet sure = inl (due_ended words command s bytes (status.Malformed bad) asked told how)
+completed words command s bytes (status.BadTerm bad) asked told how quiet sure = inl (due_ended words command s bytes (status.BadTerm bad) asked told how)
+completed words command s bytes (status.Anomalous bad) asked told how quiet sure = inl (due_ended words command s bytes (status.Anomalous bad) asked told how)
+completed words command s bytes (status.Overflow pair) asked told how quiet sure = inr (inr (overflow_of s bytes how.file pair told how.read how.overflows))
+completed words command s bytes status.WriteFault asked told how quiet sure = absurd (sure how.rose)

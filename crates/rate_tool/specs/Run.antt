@@ -1,7 +1,7 @@
 -- What a run answers, and what it reads and writes.
-use Rattle.std.specs.Prelude.{◌≡◌, ℕ, ◌≤◌, ◌<◌, nat_lt, if◌then◌else◌, ⊤, List, length, Option, Some, None, Result, Ok, Err}
+use Rattle.std.specs.Prelude.{◌≡◌, ℕ, ◌≤◌, ◌<◌, ◌⊎◌, ⊤, List, length, Option, Some, None, Result, Ok, Err}
 use Rattle.frac128.specs.declared.frac.Overflow.{Overflow}
-use Rattle.derive_core.specs.Derivation.{result_map, derivation, checked, Overflows}
+use Rattle.derive_core.specs.Derivation.{IsDerivation, IsCheck, Overflows}
 use Rattle.derive_core.specs.declared.fault.DeriveFault.{DeriveFault}
 use Rattle.derive_core.specs.declared.fault.DeriveFault.TheVariants as fault
 use Rattle.rate_tool.specs.Stream.{Gave, IsEmptied, Took, TookFront}
@@ -16,10 +16,18 @@ use Rattle.rate_tool.specs.declared.status.Status.TheVariants as status
 abbrev pub limit : ℕ
 limit = 1048576
 
+-- the text is printed of something of which this holds
+pub record IsPrinted {X : Type 0} (text_of : X → List ℕ) (Holds : X → Type 0) (text : List ℕ) : Type 0 where
+  pub found : X
+  pub holds : Holds found
+  pub printed : text ≡ text_of found
+
 -- What a command answers to a file: the bytes that it writes, or why the file is refused. The number of workers doesn't matter.
-abbrev pub answer_to : Command → List ℕ → Result (List ℕ) DeriveFault
-answer_to (Derive loops workers) file = result_map betas_text (derivation loops file)
-answer_to Check file = result_map accepted_text (checked file)
+abbrev pub IsAnswer : Command → List ℕ → Result (List ℕ) DeriveFault → Type 0
+IsAnswer (Derive loops workers) file (Ok text) = IsPrinted betas_text (λ betas. IsDerivation loops file (Ok betas)) text
+IsAnswer (Derive loops workers) file (Err bad) = IsDerivation loops file (Err bad)
+IsAnswer Check file (Ok text) = IsPrinted accepted_text (λ found. IsCheck file (Ok found)) text
+IsAnswer Check file (Err bad) = IsCheck file (Err bad)
 
 -- ---- the status that is due
 
@@ -31,35 +39,42 @@ status_of (Err (fault.Anomalous bad)) = status.Anomalous bad
 status_of (Err (fault.Overflow pair)) = status.Overflow pair
 status_of (Err fault.NoMemory) = status.NoMemory
 
+-- the status of what the command answers to the bytes, which are not too many
+pub record IsAnswered (command : Command) (bytes : List ℕ) (due : Status) : Type 0 where
+  pub short : length bytes ≤ limit
+  pub answer : Result (List ℕ) DeriveFault
+  pub answers : IsAnswer command bytes answer
+  pub is : due ≡ status_of answer
+
 -- the status of a command over a source's bytes
-abbrev pub status_for : Option Command → List ℕ → Status
-status_for None bytes = status.Usage
-status_for (Some command) bytes = if nat_lt limit (length bytes) then status.TooLong else status_of (answer_to command bytes)
+abbrev pub IsStatusFor : Option Command → List ℕ → Status → Type 0
+IsStatusFor None bytes due = due ≡ status.Usage
+IsStatusFor (Some command) bytes due = ((limit < length bytes) × (due ≡ status.TooLong)) ⊎ IsAnswered command bytes due
 
 -- The status that is due to these words over these bytes, where memory suffices and no stream fails.
-abbrev pub due_status : List (List ℕ) → List ℕ → Status
-due_status words bytes = status_for (command_of words) bytes
+abbrev pub IsDueStatus : List (List ℕ) → List ℕ → Status → Type 0
+IsDueStatus words bytes due = IsStatusFor (command_of words) bytes due
 
--- the statuses of a file that stands for a model
-abbrev pub IsOfModel : Status → Type 0
-IsOfModel status.Done = ⊤
-IsOfModel (status.BadTerm bad) = ⊤
-IsOfModel (status.Anomalous bad) = ⊤
-IsOfModel _ = ⊥
+-- The words are a command, the bytes are not too many and stand for a model, and this pair of fractions is refused.
+pub record MayOverflow (words : List (List ℕ)) (bytes : List ℕ) (pair : Overflow) : Type 0 where
+  pub command : Command
+  pub asked : command_of words ≡ Some command
+  pub short : length bytes ≤ limit
+  pub overflows : Overflows bytes pair
 
--- The status is the one that is due, but for want of memory, a failed read, a failed write in place of `Done`, or a refused
--- sum or product where the file stands for a model.
-abbrev pub IsDue : Status → Status → Type 0
-IsDue due status.NoMemory = ⊤
-IsDue due status.ReadFault = ⊤
-IsDue due status.WriteFault = due ≡ status.Done
-IsDue due status.Done = due ≡ status.Done
-IsDue due status.Usage = due ≡ status.Usage
-IsDue due status.TooLong = due ≡ status.TooLong
-IsDue due (status.Malformed bad) = due ≡ status.Malformed bad
-IsDue due (status.BadTerm bad) = due ≡ status.BadTerm bad
-IsDue due (status.Anomalous bad) = due ≡ status.Anomalous bad
-IsDue due (status.Overflow pair) = IsOfModel due
+-- The status is the one that is due to these words over these bytes, but for want of memory, a failed read, a failed write in
+-- place of `Done`, or a refused sum or product where the file stands for a model.
+abbrev pub IsDue : List (List ℕ) → List ℕ → Status → Type 0
+IsDue words bytes status.NoMemory = ⊤
+IsDue words bytes status.ReadFault = ⊤
+IsDue words bytes status.WriteFault = IsDueStatus words bytes status.Done
+IsDue words bytes status.Done = IsDueStatus words bytes status.Done
+IsDue words bytes status.Usage = IsDueStatus words bytes status.Usage
+IsDue words bytes status.TooLong = IsDueStatus words bytes status.TooLong
+IsDue words bytes (status.Malformed bad) = IsDueStatus words bytes (status.Malformed bad)
+IsDue words bytes (status.BadTerm bad) = IsDueStatus words bytes (status.BadTerm bad)
+IsDue words bytes (status.Anomalous bad) = IsDueStatus words bytes (status.Anomalous bad)
+IsDue words bytes (status.Overflow pair) = MayOverflow words bytes pair
 
 -- The status says that two fractions are refused, of a model that these bytes stand for.
 abbrev pub IsOverflow : List ℕ → Status → Type 0
@@ -86,7 +101,7 @@ pub record HasAnswer (words : List (List ℕ)) (left left' : Option (List ℕ)) 
   pub asked : command_of words ≡ Some command
   pub file : List ℕ
   pub read : WasRead left left' file
-  pub answers : answer_to command file ≡ answer
+  pub answers : IsAnswer command file answer
 
 -- The words are a command, a file was read whole, it stands for a model, and this pair of fractions is refused.
 pub record HasOverflow (words : List (List ℕ)) (left left' : Option (List ℕ)) (pair : Overflow) : Type 0 where

@@ -1,12 +1,12 @@
 -- The steps of a run.
-use Rattle.std.specs.Prelude.{◌≡◌, ℕ, ◌≤◌, List, ◌++◌, length, Option, Result, Ok, Err, Vec}
+use Rattle.std.specs.Prelude.{◌≡◌, ⊤, ℕ, ◌≤◌, List, ◌++◌, length, Option, Result, Ok, Err, Vec}
 use Rattle.std.specs.declared.alloc.Global.{Global}
 use Rattle.frac128.specs.declared.frac.Overflow.{Overflow}
 use Rattle.derive_core.specs.declared.fault.DeriveFault.{DeriveFault}
 use Rattle.derive_core.specs.declared.fault.DeriveFault.TheVariants as fault
 use Rattle.derive_core.specs.Derivation.{Overflows}
 use Rattle.rate_tool.specs.Stream.{Rose, Gave, IsEmptied, Took, TookFront}
-use Rattle.rate_tool.specs.Run.{answer_to, WasRead, WasTooLong}
+use Rattle.rate_tool.specs.Run.{IsAnswer, WasRead, WasTooLong}
 use Rattle.rate_tool.specs.declared.words.Command.{Command}
 use Rattle.rate_tool.specs.declared.run.Stop.{Stop}
 use Rattle.rate_tool.specs.declared.run.Stop.TheVariants as stop
@@ -47,12 +47,21 @@ ReadEnds left left' reads reads' (Err stop.NoMemory) = reads' ≡ reads
 ReadEnds left left' reads reads' (Err stop.ReadFault) = Rose reads reads'
 ReadEnds left left' reads reads' (Err stop.TooLong) = WasTooLong left left' × (reads' ≡ reads)
 
+-- how the answer of a command to a file ends: with the one that is due, with a refused pair, or for want of memory
+abbrev pub AnswerEnds : Command → List ℕ → Result (List ℕ) DeriveFault → Type 0
+AnswerEnds command file (Ok text) = IsAnswer command file (Ok text)
+AnswerEnds command file (Err (fault.Read bad)) = IsAnswer command file (Err (fault.Read bad))
+AnswerEnds command file (Err (fault.Term bad)) = IsAnswer command file (Err (fault.Term bad))
+AnswerEnds command file (Err (fault.Anomalous bad)) = IsAnswer command file (Err (fault.Anomalous bad))
+AnswerEnds command file (Err (fault.Overflow pair)) = Overflows file pair
+AnswerEnds command file (Err fault.NoMemory) = ⊤
+
 -- a file was read whole, with no fault, and this is what the command answers to it
 pub record Answers (command : Command) (s : Streams) (answer : Result (List ℕ) DeriveFault) : Type 0 where
   pub file : List ℕ
   pub read : WasRead s.left s.left' file
   pub counted : s.reads' ≡ s.reads
-  pub answers : answer_to command file ≡ answer
+  pub answers : IsAnswer command file answer
 
 -- a file was read whole, with no fault, it stands for a model, and this pair of fractions is refused
 pub record ReadsOverflow (s : Streams) (pair : Overflow) : Type 0 where

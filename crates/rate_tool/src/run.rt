@@ -1,15 +1,13 @@
 //! The top call.
 ghost use Rattle.std.specs.Prelude.{◌≡◌, ◌↔◌, ◌<◌, ◌≤◌, ◌⊎◌, length, Err, IsNone, IfSome};
 ghost use Rattle.anomaly_check.specs.declared.anomaly.Anomaly.{Anomaly};
-ghost use Rattle.derive_core.specs.Derivation.{Derives, derivation, checked, result_map};
 ghost use Rattle.frac128.specs.declared.frac.Overflow.{Overflow};
 ghost use Rattle.gauge_check.specs.declared.fault.TermFault.{TermFault};
 ghost use Rattle.model_core.specs.declared.fault.ReadFault.{ReadFault};
 ghost use Rattle.rate_tool.specs.Stream.{Rose};
-ghost use Rattle.rate_tool.specs.Text.{betas_text, accepted_text};
 ghost use Rattle.rate_tool.specs.Words.{command_of, texts, HasNumbers};
-ghost use Rattle.rate_tool.specs.Run.{answer_to, due_status, status_of, IsDue, IsOverflow, WasTooLong, HasAnswer, HasOverflow, WroteAnswer, WroteFront, IsSilent};
-ghost use Rattle.rate_tool.specs.Steps.{PieceEnds, ReadEnds, FileEnds};
+ghost use Rattle.rate_tool.specs.Run.{status_of, IsDueStatus, IsDue, IsOverflow, WasTooLong, HasAnswer, HasOverflow, WroteAnswer, WroteFront, IsSilent};
+ghost use Rattle.rate_tool.specs.Steps.{PieceEnds, ReadEnds, AnswerEnds, FileEnds};
 
 use crate::keeper::Keeper;
 use crate::print::{print_accepted, print_betas};
@@ -88,7 +86,7 @@ fn derived_text<R: Threads + Sync, G: Gate>(
     requires loops { loops ≤ 2 }
     requires one_worker { 1 ≤ workers }
     requires workers { workers ≤ 64 }
-    ensures { Derives file.now (result_map betas_text (derivation loops file.now)) result }
+    ensures { AnswerEnds (Command.Derive loops workers) file.now result }
 {
     let betas = derive(rt, alloc, file, loops, workers, gate)?;
     let text = print_betas(alloc, &betas)?;
@@ -102,7 +100,7 @@ fn checked_text<R: Threads + Sync, G: Gate>(
     file: &[u8],
     gate: &G,
 ) -> Result<ByteList, DeriveFault>
-    ensures { Derives file.now (result_map accepted_text (checked file.now)) result }
+    ensures { AnswerEnds Command.Check file.now result }
 {
     let found = check(rt, alloc, file, 1, gate)?;
     let text = print_accepted(alloc, &found)?;
@@ -118,7 +116,7 @@ fn answer_to<R: Threads + Sync, G: Gate>(
     gate: &G,
 ) -> Result<ByteList, DeriveFault>
     requires { HasNumbers command }
-    ensures { Derives file.now (answer_to command file.now) result }
+    ensures { AnswerEnds command file.now result }
 {
     match command {
         Command::Derive { loops, workers } => derived_text(rt, alloc, loops, workers, file, gate),
@@ -193,12 +191,12 @@ pub fn run<R: Threads + Sync, S: Source, O: Sink, K: Keeper, G: Gate>(
 ) -> Status
     // The status is the one that is due to the words and the source's bytes, but for want of memory
     // and faults of the streams.
-    ensures due { IfSome (S.left source.old) (λ bytes. IsDue (due_status (texts words.now) bytes) result) }
+    ensures due { IfSome (S.left source.old) (λ bytes. IsDue (texts words.now) bytes result) }
 
-    // Where no count of faults rose, it is that very status or `NoMemory`, or two fractions of the model are refused.
+    // Where no count of faults rose, it is the status that is due or `NoMemory`, or two fractions of the model are refused.
     ensures complete { IfSome (S.left source.old) (λ bytes.
         ¬ Rose (S.faults source.old) (S.faults source.new) → ¬ Rose (O.faults out.old) (O.faults out.new) →
-        (result ≡ due_status (texts words.now) bytes) ⊎ ((result ≡ Status.NoMemory) ⊎ IsOverflow bytes result)) }
+        IsDueStatus (texts words.now) bytes result ⊎ ((result ≡ Status.NoMemory) ⊎ IsOverflow bytes result)) }
 
     // Each status has its cause.
     ensures usage { (result ≡ Status.Usage) ↔ IsNone (command_of (texts words.now)) }

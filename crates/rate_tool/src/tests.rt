@@ -86,7 +86,7 @@ fn check<R: Threads + Sync + Abort>(
 ) -> Result<(), AllocError> {
     let mut bytes = ByteList::new(alloc);
     bytes.extend(file)?;
-    let mut out = SureSink::new(alloc, 1024)?;
+    let mut out = SureSink::new(alloc, 16_384)?;
     let (got, told) = run_over(rt, alloc, words, &mut SureSource::new(bytes), &mut out)?;
     assert_eq!(rt; got, code);
     assert_eq!(rt; out.bytes().unwrap_or(b"lost"), text);
@@ -147,7 +147,7 @@ fn models_have_their_answers(rt: HostRuntime) -> Result<(), AllocError> {
         ),
         (
             b"profile = 1\nname = \"maj\"\nfermion = [{name=\"N\"}]\nscalar = [{name=\"S\", real=true}]\nterm = [{coupling=\"y\", value=\"complex\", text=\"1/2 N N S\"}]\n",
-            b"model maj\nloops 1\n",
+            b"model maj\nloops 1\nbeta1 y = 4*y^2*conj(y)\n",
         ),
         (
             b"profile = 1\nname = \"adj2\"\ngroup = [{name=\"SU2\", n=2, coupling=\"g\"}]\nscalar = [{name=\"Phi\", real=true, reps={SU2=\"adjoint\"}}]\nterm = [{coupling=\"lam\", text=\"1/4 Phi(a,b) Phi(b,a) Phi(c,d) Phi(d,c)\"}]\n",
@@ -155,7 +155,7 @@ fn models_have_their_answers(rt: HostRuntime) -> Result<(), AllocError> {
         ),
         (
             b"profile = 1\nname = \"SM3\"\ngroup = [{name=\"U1\", n=1, coupling=\"g1\"}, {name=\"SU2\", n=2, coupling=\"g2\"}, {name=\"SU3\", n=3, coupling=\"g3\"}]\nfermion = [{name=\"Q\", generations=3, charge=\"1/6\", reps={SU2=\"fund\", SU3=\"fund\"}}, {name=\"u\", generations=3, charge=\"-2/3\", reps={SU3=\"conj\"}}, {name=\"d\", generations=3, charge=\"1/3\", reps={SU3=\"conj\"}}, {name=\"L\", generations=3, charge=\"-1/2\", reps={SU2=\"fund\"}}, {name=\"e\", generations=3, charge=\"1\"}]\nscalar = [{name=\"H\", charge=\"1/2\", reps={SU2=\"fund\"}}]\nterm = [{coupling=\"yt\", text=\"Q[3](a,c) u[3](c) H(b) eps(a,b)\"}, {coupling=\"yb\", text=\"Q[3](a,c) d[3](c) H~(a)\"}, {coupling=\"yl\", text=\"L[3](a) e[3] H~(a)\"}, {coupling=\"lam\", text=\"H~(a) H(a) H~(b) H(b)\"}]\n",
-            b"model SM3\nloops 1\nbeta1 g1 = 41/6*g1^3\nbeta1 g2 = -19/6*g2^3\nbeta1 g3 = -7*g3^3\n",
+            b"model SM3\nloops 1\nbeta1 g1 = 41/6*g1^3\nbeta1 g2 = -19/6*g2^3\nbeta1 g3 = -7*g3^3\nbeta1 yt = -17/12*g1^2*yt - 9/4*g2^2*yt - 8*g3^2*yt + 9/2*yt^3 + 3/2*yt*yb^2 + yt*yl^2\nbeta1 yb = -5/12*g1^2*yb - 9/4*g2^2*yb - 8*g3^2*yb + 3/2*yt^2*yb + 9/2*yb^3 + yb*yl^2\nbeta1 yl = -15/4*g1^2*yl - 9/4*g2^2*yl + 3*yt^2*yl + 3*yb^2*yl + 5/2*yl^3\n",
         ),
         (
             b"profile = 1\nname = \"phi\"\nscalar = [{name=\"S\", real=true}]\nterm = [{coupling=\"lam\", text=\"1/24 S S S S\"}]\n",
@@ -225,6 +225,11 @@ term 1 q not invariant under SU2 1 1 at H(1) H(1) H(1) H(1) value 48 <= group = 
 # Of a scalar term its conjugate is missing.
 term 1 q not hermitian at P P X~ X~ <= group = [{name="U1", n=1, coupling="g"}]@scalar = [{name="P", charge="1"}, {name="X", charge="1"}]@term = [{coupling="q", text="P~ P~ X X"}]
 term 1 m not hermitian at s[1] s[1] s~[1] s~[2] <= scalar = [{name="s", generations=2}]@term = [{coupling="m", shape="matrix", flavour=["i", "j"], text="s~[i] s[j] s~[1] s[1]"}]
+# A term that is another with a factor, a complex one with its conjugate, and one whose tensor is 0.
+term 2 b dependent b <= fermion = [{name="A"}]@scalar = [{name="S", real=true}]@term = [{coupling="a", text="1/2 A A S"}, {coupling="b", text="A A S"}]
+term 2 b dependent conj(b) <= fermion = [{name="A"}]@scalar = [{name="S", real=true}]@term = [{coupling="a", text="1/2 A A S"}, {coupling="b", value="complex", text="A A S"}]
+term 1 y dependent y <= group = [{name="SU2", n=2, coupling="g"}]@fermion = [{name="D", reps={SU2="fund"}}]@scalar = [{name="S", real=true}]@term = [{coupling="y", text="D(a) D(b) S eps(a,b)"}]
+term 1 y dependent y[1,1] <= group = [{name="SU2", n=2, coupling="g"}]@fermion = [{name="D", generations=2, reps={SU2="fund"}}]@scalar = [{name="S", real=true}]@term = [{coupling="y", shape="matrix", flavour=["i", "j"], text="D[i](a) D[j](b) S eps(a,b)"}]
 # A term comes before an anomaly, and an anomaly of a group before those of the charge.
 term 1 q not hermitian at P P X~ X~ <= group = [{name="U1", n=1, coupling="g"}]@fermion = [{name="e", charge="-1"}]@scalar = [{name="P", charge="1"}, {name="X", charge="1"}]@term = [{coupling="q", text="P~ P~ X X"}]
 anomalous Gravity U1 -1 <= group = [{name="U1", n=1, coupling="g"}]@fermion = [{name="e", charge="-1"}]
@@ -283,8 +288,25 @@ fn terms_and_anomalies_have_their_lines(rt: HostRuntime) -> Result<(), AllocErro
     Ok(())
 }
 
-/// The beta lines to two loops of a model named M, joined by ` ; `, and its keys, with `@` for a line break. The coefficients
-/// are those of Machacek and Vaughn, and of Luo, Wang and Xiao; those of the Standard Model are the published ones, with the
+/// The lines of a model named M to one loop, joined by ` ; `, and its keys, with `@` for a line break. The values were worked
+/// out by hand.
+const ONE_LOOP: &str = r#"
+# A generated block, and one that isn't spanned, since a real coupling would have to follow a complex product.
+beta1 a = 4*a^3 + 8*a*b^2 ; beta1 b = 4*a^2*b + 5*b^3 ; generated B B S at B B S = 3*a*b^2 <= fermion = [{name="A"}, {name="B"}]@scalar = [{name="S", real=true}]@term = [{coupling="a", text="1/2 A A S"}, {coupling="b", text="A B S"}]
+beta1 a = 4*a^2*conj(a) + a*b*conj(b) + 8*a*c^2 + 3*conj(b)*c^2 ; beta1 b = a*conj(a)*b + 3*conj(a)*c^2 + 4*b^2*conj(b) + 8*b*c^2 ; open A B S at A~ B~ S <= fermion = [{name="A"}, {name="B"}]@scalar = [{name="S", real=true}]@term = [{coupling="a", value="complex", text="1/2 A A S"}, {coupling="b", value="complex", text="1/2 B B S"}, {coupling="c", text="A B S"}]
+# A complex scalar, where half the coupling's term has the coefficient 3/2 of Wess and Zumino, and a real one.
+beta1 y = 6*y^2*conj(y) <= fermion = [{name="N"}]@scalar = [{name="S"}]@term = [{coupling="y", value="complex", text="N N S"}]
+beta1 y = 3/2*y^2*conj(y) <= fermion = [{name="N"}]@scalar = [{name="S"}]@term = [{coupling="y", value="complex", text="1/2 N N S"}]
+beta1 y = 4*y^3 <= fermion = [{name="A"}]@scalar = [{name="S", real=true}]@term = [{coupling="y", text="1/2 A A S"}]
+# Two scalars of one coupling each: S2 with both of them.
+beta1 y = 5*y^3 + 5*y*z^2 ; beta1 z = 5*y^2*z + 5*z^3 <= fermion = [{name="A"}, {name="B"}]@scalar = [{name="S", real=true}, {name="R", real=true}]@term = [{coupling="y", text="A B S"}, {coupling="z", text="A B R"}]
+# The Standard Model with complex matrices for two generations, entry by entry from the matrix form of Machacek and Vaughn:
+# 3/2 (Yu Yu+ - Yd Yd+) Yu + Tr(3 Yu Yu+ + 3 Yd Yd+ + Yl Yl+) Yu - (17/12 g1^2 + 9/4 g2^2 + 8 g3^2) Yu, and so on.
+beta1 g1 = 83/18*g1^3 ; beta1 g2 = -9/2*g2^3 ; beta1 g3 = -25/3*g3^3 ; beta1 Yu[1,1] = -17/12*g1^2*Yu[1,1] - 9/4*g2^2*Yu[1,1] - 8*g3^2*Yu[1,1] + 9/2*Yu[1,1]^2*conj(Yu[1,1]) + 9/2*Yu[1,1]*Yu[1,2]*conj(Yu[1,2]) + 9/2*Yu[1,1]*Yu[2,1]*conj(Yu[2,1]) + 3*Yu[1,1]*Yu[2,2]*conj(Yu[2,2]) + 3/2*Yu[1,1]*Yd[1,1]*conj(Yd[1,1]) + 3/2*Yu[1,1]*Yd[1,2]*conj(Yd[1,2]) + 3*Yu[1,1]*Yd[2,1]*conj(Yd[2,1]) + 3*Yu[1,1]*Yd[2,2]*conj(Yd[2,2]) + Yu[1,1]*Yl[1,1]*conj(Yl[1,1]) + Yu[1,1]*Yl[1,2]*conj(Yl[1,2]) + Yu[1,1]*Yl[2,1]*conj(Yl[2,1]) + Yu[1,1]*Yl[2,2]*conj(Yl[2,2]) + 3/2*Yu[1,2]*Yu[2,1]*conj(Yu[2,2]) - 3/2*Yu[2,1]*Yd[1,1]*conj(Yd[2,1]) - 3/2*Yu[2,1]*Yd[1,2]*conj(Yd[2,2]) ; beta1 Yu[1,2] = -17/12*g1^2*Yu[1,2] - 9/4*g2^2*Yu[1,2] - 8*g3^2*Yu[1,2] + 9/2*Yu[1,1]*conj(Yu[1,1])*Yu[1,2] + 3/2*Yu[1,1]*conj(Yu[2,1])*Yu[2,2] + 9/2*Yu[1,2]^2*conj(Yu[1,2]) + 3*Yu[1,2]*Yu[2,1]*conj(Yu[2,1]) + 9/2*Yu[1,2]*Yu[2,2]*conj(Yu[2,2]) + 3/2*Yu[1,2]*Yd[1,1]*conj(Yd[1,1]) + 3/2*Yu[1,2]*Yd[1,2]*conj(Yd[1,2]) + 3*Yu[1,2]*Yd[2,1]*conj(Yd[2,1]) + 3*Yu[1,2]*Yd[2,2]*conj(Yd[2,2]) + Yu[1,2]*Yl[1,1]*conj(Yl[1,1]) + Yu[1,2]*Yl[1,2]*conj(Yl[1,2]) + Yu[1,2]*Yl[2,1]*conj(Yl[2,1]) + Yu[1,2]*Yl[2,2]*conj(Yl[2,2]) - 3/2*Yu[2,2]*Yd[1,1]*conj(Yd[2,1]) - 3/2*Yu[2,2]*Yd[1,2]*conj(Yd[2,2]) ; beta1 Yu[2,1] = -17/12*g1^2*Yu[2,1] - 9/4*g2^2*Yu[2,1] - 8*g3^2*Yu[2,1] + 9/2*Yu[1,1]*conj(Yu[1,1])*Yu[2,1] + 3/2*Yu[1,1]*conj(Yu[1,2])*Yu[2,2] - 3/2*Yu[1,1]*conj(Yd[1,1])*Yd[2,1] - 3/2*Yu[1,1]*conj(Yd[1,2])*Yd[2,2] + 3*Yu[1,2]*conj(Yu[1,2])*Yu[2,1] + 9/2*Yu[2,1]^2*conj(Yu[2,1]) + 9/2*Yu[2,1]*Yu[2,2]*conj(Yu[2,2]) + 3*Yu[2,1]*Yd[1,1]*conj(Yd[1,1]) + 3*Yu[2,1]*Yd[1,2]*conj(Yd[1,2]) + 3/2*Yu[2,1]*Yd[2,1]*conj(Yd[2,1]) + 3/2*Yu[2,1]*Yd[2,2]*conj(Yd[2,2]) + Yu[2,1]*Yl[1,1]*conj(Yl[1,1]) + Yu[2,1]*Yl[1,2]*conj(Yl[1,2]) + Yu[2,1]*Yl[2,1]*conj(Yl[2,1]) + Yu[2,1]*Yl[2,2]*conj(Yl[2,2]) ; beta1 Yu[2,2] = -17/12*g1^2*Yu[2,2] - 9/4*g2^2*Yu[2,2] - 8*g3^2*Yu[2,2] + 3*Yu[1,1]*conj(Yu[1,1])*Yu[2,2] + 3/2*conj(Yu[1,1])*Yu[1,2]*Yu[2,1] + 9/2*Yu[1,2]*conj(Yu[1,2])*Yu[2,2] - 3/2*Yu[1,2]*conj(Yd[1,1])*Yd[2,1] - 3/2*Yu[1,2]*conj(Yd[1,2])*Yd[2,2] + 9/2*Yu[2,1]*conj(Yu[2,1])*Yu[2,2] + 9/2*Yu[2,2]^2*conj(Yu[2,2]) + 3*Yu[2,2]*Yd[1,1]*conj(Yd[1,1]) + 3*Yu[2,2]*Yd[1,2]*conj(Yd[1,2]) + 3/2*Yu[2,2]*Yd[2,1]*conj(Yd[2,1]) + 3/2*Yu[2,2]*Yd[2,2]*conj(Yd[2,2]) + Yu[2,2]*Yl[1,1]*conj(Yl[1,1]) + Yu[2,2]*Yl[1,2]*conj(Yl[1,2]) + Yu[2,2]*Yl[2,1]*conj(Yl[2,1]) + Yu[2,2]*Yl[2,2]*conj(Yl[2,2]) ; beta1 Yd[1,1] = -5/12*g1^2*Yd[1,1] - 9/4*g2^2*Yd[1,1] - 8*g3^2*Yd[1,1] + 3/2*Yu[1,1]*conj(Yu[1,1])*Yd[1,1] - 3/2*Yu[1,1]*conj(Yu[2,1])*Yd[2,1] + 3/2*Yu[1,2]*conj(Yu[1,2])*Yd[1,1] - 3/2*Yu[1,2]*conj(Yu[2,2])*Yd[2,1] + 3*Yu[2,1]*conj(Yu[2,1])*Yd[1,1] + 3*Yu[2,2]*conj(Yu[2,2])*Yd[1,1] + 9/2*Yd[1,1]^2*conj(Yd[1,1]) + 9/2*Yd[1,1]*Yd[1,2]*conj(Yd[1,2]) + 9/2*Yd[1,1]*Yd[2,1]*conj(Yd[2,1]) + 3*Yd[1,1]*Yd[2,2]*conj(Yd[2,2]) + Yd[1,1]*Yl[1,1]*conj(Yl[1,1]) + Yd[1,1]*Yl[1,2]*conj(Yl[1,2]) + Yd[1,1]*Yl[2,1]*conj(Yl[2,1]) + Yd[1,1]*Yl[2,2]*conj(Yl[2,2]) + 3/2*Yd[1,2]*Yd[2,1]*conj(Yd[2,2]) ; beta1 Yd[1,2] = -5/12*g1^2*Yd[1,2] - 9/4*g2^2*Yd[1,2] - 8*g3^2*Yd[1,2] + 3/2*Yu[1,1]*conj(Yu[1,1])*Yd[1,2] - 3/2*Yu[1,1]*conj(Yu[2,1])*Yd[2,2] + 3/2*Yu[1,2]*conj(Yu[1,2])*Yd[1,2] - 3/2*Yu[1,2]*conj(Yu[2,2])*Yd[2,2] + 3*Yu[2,1]*conj(Yu[2,1])*Yd[1,2] + 3*Yu[2,2]*conj(Yu[2,2])*Yd[1,2] + 9/2*Yd[1,1]*conj(Yd[1,1])*Yd[1,2] + 3/2*Yd[1,1]*conj(Yd[2,1])*Yd[2,2] + 9/2*Yd[1,2]^2*conj(Yd[1,2]) + 3*Yd[1,2]*Yd[2,1]*conj(Yd[2,1]) + 9/2*Yd[1,2]*Yd[2,2]*conj(Yd[2,2]) + Yd[1,2]*Yl[1,1]*conj(Yl[1,1]) + Yd[1,2]*Yl[1,2]*conj(Yl[1,2]) + Yd[1,2]*Yl[2,1]*conj(Yl[2,1]) + Yd[1,2]*Yl[2,2]*conj(Yl[2,2]) ; beta1 Yd[2,1] = -5/12*g1^2*Yd[2,1] - 9/4*g2^2*Yd[2,1] - 8*g3^2*Yd[2,1] + 3*Yu[1,1]*conj(Yu[1,1])*Yd[2,1] - 3/2*conj(Yu[1,1])*Yu[2,1]*Yd[1,1] + 3*Yu[1,2]*conj(Yu[1,2])*Yd[2,1] - 3/2*conj(Yu[1,2])*Yu[2,2]*Yd[1,1] + 3/2*Yu[2,1]*conj(Yu[2,1])*Yd[2,1] + 3/2*Yu[2,2]*conj(Yu[2,2])*Yd[2,1] + 9/2*Yd[1,1]*conj(Yd[1,1])*Yd[2,1] + 3/2*Yd[1,1]*conj(Yd[1,2])*Yd[2,2] + 3*Yd[1,2]*conj(Yd[1,2])*Yd[2,1] + 9/2*Yd[2,1]^2*conj(Yd[2,1]) + 9/2*Yd[2,1]*Yd[2,2]*conj(Yd[2,2]) + Yd[2,1]*Yl[1,1]*conj(Yl[1,1]) + Yd[2,1]*Yl[1,2]*conj(Yl[1,2]) + Yd[2,1]*Yl[2,1]*conj(Yl[2,1]) + Yd[2,1]*Yl[2,2]*conj(Yl[2,2]) ; beta1 Yd[2,2] = -5/12*g1^2*Yd[2,2] - 9/4*g2^2*Yd[2,2] - 8*g3^2*Yd[2,2] + 3*Yu[1,1]*conj(Yu[1,1])*Yd[2,2] - 3/2*conj(Yu[1,1])*Yu[2,1]*Yd[1,2] + 3*Yu[1,2]*conj(Yu[1,2])*Yd[2,2] - 3/2*conj(Yu[1,2])*Yu[2,2]*Yd[1,2] + 3/2*Yu[2,1]*conj(Yu[2,1])*Yd[2,2] + 3/2*Yu[2,2]*conj(Yu[2,2])*Yd[2,2] + 3*Yd[1,1]*conj(Yd[1,1])*Yd[2,2] + 3/2*conj(Yd[1,1])*Yd[1,2]*Yd[2,1] + 9/2*Yd[1,2]*conj(Yd[1,2])*Yd[2,2] + 9/2*Yd[2,1]*conj(Yd[2,1])*Yd[2,2] + 9/2*Yd[2,2]^2*conj(Yd[2,2]) + Yd[2,2]*Yl[1,1]*conj(Yl[1,1]) + Yd[2,2]*Yl[1,2]*conj(Yl[1,2]) + Yd[2,2]*Yl[2,1]*conj(Yl[2,1]) + Yd[2,2]*Yl[2,2]*conj(Yl[2,2]) ; beta1 Yl[1,1] = -15/4*g1^2*Yl[1,1] - 9/4*g2^2*Yl[1,1] + 3*Yu[1,1]*conj(Yu[1,1])*Yl[1,1] + 3*Yu[1,2]*conj(Yu[1,2])*Yl[1,1] + 3*Yu[2,1]*conj(Yu[2,1])*Yl[1,1] + 3*Yu[2,2]*conj(Yu[2,2])*Yl[1,1] + 3*Yd[1,1]*conj(Yd[1,1])*Yl[1,1] + 3*Yd[1,2]*conj(Yd[1,2])*Yl[1,1] + 3*Yd[2,1]*conj(Yd[2,1])*Yl[1,1] + 3*Yd[2,2]*conj(Yd[2,2])*Yl[1,1] + 5/2*Yl[1,1]^2*conj(Yl[1,1]) + 5/2*Yl[1,1]*Yl[1,2]*conj(Yl[1,2]) + 5/2*Yl[1,1]*Yl[2,1]*conj(Yl[2,1]) + Yl[1,1]*Yl[2,2]*conj(Yl[2,2]) + 3/2*Yl[1,2]*Yl[2,1]*conj(Yl[2,2]) ; beta1 Yl[1,2] = -15/4*g1^2*Yl[1,2] - 9/4*g2^2*Yl[1,2] + 3*Yu[1,1]*conj(Yu[1,1])*Yl[1,2] + 3*Yu[1,2]*conj(Yu[1,2])*Yl[1,2] + 3*Yu[2,1]*conj(Yu[2,1])*Yl[1,2] + 3*Yu[2,2]*conj(Yu[2,2])*Yl[1,2] + 3*Yd[1,1]*conj(Yd[1,1])*Yl[1,2] + 3*Yd[1,2]*conj(Yd[1,2])*Yl[1,2] + 3*Yd[2,1]*conj(Yd[2,1])*Yl[1,2] + 3*Yd[2,2]*conj(Yd[2,2])*Yl[1,2] + 5/2*Yl[1,1]*conj(Yl[1,1])*Yl[1,2] + 3/2*Yl[1,1]*conj(Yl[2,1])*Yl[2,2] + 5/2*Yl[1,2]^2*conj(Yl[1,2]) + Yl[1,2]*Yl[2,1]*conj(Yl[2,1]) + 5/2*Yl[1,2]*Yl[2,2]*conj(Yl[2,2]) ; beta1 Yl[2,1] = -15/4*g1^2*Yl[2,1] - 9/4*g2^2*Yl[2,1] + 3*Yu[1,1]*conj(Yu[1,1])*Yl[2,1] + 3*Yu[1,2]*conj(Yu[1,2])*Yl[2,1] + 3*Yu[2,1]*conj(Yu[2,1])*Yl[2,1] + 3*Yu[2,2]*conj(Yu[2,2])*Yl[2,1] + 3*Yd[1,1]*conj(Yd[1,1])*Yl[2,1] + 3*Yd[1,2]*conj(Yd[1,2])*Yl[2,1] + 3*Yd[2,1]*conj(Yd[2,1])*Yl[2,1] + 3*Yd[2,2]*conj(Yd[2,2])*Yl[2,1] + 5/2*Yl[1,1]*conj(Yl[1,1])*Yl[2,1] + 3/2*Yl[1,1]*conj(Yl[1,2])*Yl[2,2] + Yl[1,2]*conj(Yl[1,2])*Yl[2,1] + 5/2*Yl[2,1]^2*conj(Yl[2,1]) + 5/2*Yl[2,1]*Yl[2,2]*conj(Yl[2,2]) ; beta1 Yl[2,2] = -15/4*g1^2*Yl[2,2] - 9/4*g2^2*Yl[2,2] + 3*Yu[1,1]*conj(Yu[1,1])*Yl[2,2] + 3*Yu[1,2]*conj(Yu[1,2])*Yl[2,2] + 3*Yu[2,1]*conj(Yu[2,1])*Yl[2,2] + 3*Yu[2,2]*conj(Yu[2,2])*Yl[2,2] + 3*Yd[1,1]*conj(Yd[1,1])*Yl[2,2] + 3*Yd[1,2]*conj(Yd[1,2])*Yl[2,2] + 3*Yd[2,1]*conj(Yd[2,1])*Yl[2,2] + 3*Yd[2,2]*conj(Yd[2,2])*Yl[2,2] + Yl[1,1]*conj(Yl[1,1])*Yl[2,2] + 3/2*conj(Yl[1,1])*Yl[1,2]*Yl[2,1] + 5/2*Yl[1,2]*conj(Yl[1,2])*Yl[2,2] + 5/2*Yl[2,1]*conj(Yl[2,1])*Yl[2,2] + 5/2*Yl[2,2]^2*conj(Yl[2,2]) <= group = [{name="U1", n=1, coupling="g1"}, {name="SU2", n=2, coupling="g2"}, {name="SU3", n=3, coupling="g3"}]@fermion = [{name="Q", generations=2, charge="1/6", reps={SU2="fund", SU3="fund"}}, {name="u", generations=2, charge="-2/3", reps={SU3="conj"}}, {name="d", generations=2, charge="1/3", reps={SU3="conj"}}, {name="L", generations=2, charge="-1/2", reps={SU2="fund"}}, {name="e", generations=2, charge="1"}]@scalar = [{name="H", charge="1/2", reps={SU2="fund"}}]@term = [{coupling="Yu", value="complex", shape="matrix", flavour=["i", "j"], text="Q[i](a,c) u[j](c) H(b) eps(a,b)"}, {coupling="Yd", value="complex", shape="matrix", flavour=["i", "j"], text="Q[i](a,c) d[j](c) H~(a)"}, {coupling="Yl", value="complex", shape="matrix", flavour=["i", "j"], text="L[i](a) e[j] H~(a)"}]
+"#;
+
+/// The lines of a model named M to two loops, joined by ` ; `, and its keys, with `@` for a line break. The coefficients are
+/// those of Machacek and Vaughn, and of Luo, Wang and Xiao; those of the Standard Model are the published ones, with the
 /// hypercharge as the charge, where g1^2 is 3/5 of that of a unified theory.
 const TWO_LOOPS: &str = r#"
 beta1 g = -7*g^3 ; beta2 g = -26*g^5 <= group = [{name="SU3", n=3, coupling="g"}]@fermion = [{name="q", generations=6, reps={SU3="fund"}}, {name="qc", generations=6, reps={SU3="conj"}}]
@@ -292,16 +314,16 @@ beta1 g = 4/3*g^3 ; beta2 g = 4*g^5 <= group = [{name="U1", n=1, coupling="g"}]@
 beta1 g = 1/3*g^3 ; beta2 g = 4*g^5 <= group = [{name="U1", n=1, coupling="g"}]@scalar = [{name="p", charge="1"}]@term = [{coupling="lam", text="p~ p p~ p"}]
 beta1 g = -7*g^3 ; beta2 g = -36*g^5 <= group = [{name="SU2", n=2, coupling="g"}]@scalar = [{name="Phi", real=true, reps={SU2="adjoint"}}]@term = [{coupling="lam", text="1/4 Phi(a,b) Phi(b,a) Phi(c,d) Phi(d,c)"}]
 beta1 g = 2/3*g^3 ; beta2 g = 8*g^5 <= group = [{name="U1", n=1, coupling="g"}]@scalar = [{name="P", charge="1"}, {name="X", charge="1"}]@term = [{coupling="l1", text="P~ P P~ P"}, {coupling="l2", text="X~ X X~ X"}]
-beta1 g1 = 41/6*g1^3 ; beta1 g2 = -19/6*g2^3 ; beta1 g3 = -7*g3^3 ; beta2 g1 = 199/18*g1^5 + 9/2*g1^3*g2^2 + 44/3*g1^3*g3^2 - 17/6*g1^3*yt^2 - 5/6*g1^3*yb^2 - 5/2*g1^3*yl^2 ; beta2 g2 = 3/2*g1^2*g2^3 + 35/6*g2^5 + 12*g2^3*g3^2 - 3/2*g2^3*yt^2 - 3/2*g2^3*yb^2 - 1/2*g2^3*yl^2 ; beta2 g3 = 11/6*g1^2*g3^3 + 9/2*g2^2*g3^3 - 26*g3^5 - 2*g3^3*yt^2 - 2*g3^3*yb^2 <= group = [{name="U1", n=1, coupling="g1"}, {name="SU2", n=2, coupling="g2"}, {name="SU3", n=3, coupling="g3"}]@fermion = [{name="Q", generations=3, charge="1/6", reps={SU2="fund", SU3="fund"}}, {name="u", generations=3, charge="-2/3", reps={SU3="conj"}}, {name="d", generations=3, charge="1/3", reps={SU3="conj"}}, {name="L", generations=3, charge="-1/2", reps={SU2="fund"}}, {name="e", generations=3, charge="1"}]@scalar = [{name="H", charge="1/2", reps={SU2="fund"}}]@term = [{coupling="yt", text="Q[3](a,c) u[3](c) H(b) eps(a,b)"}, {coupling="yb", text="Q[3](a,c) d[3](c) H~(a)"}, {coupling="yl", text="L[3](a) e[3] H~(a)"}, {coupling="lam", text="H~(a) H(a) H~(b) H(b)"}]
+beta1 g1 = 41/6*g1^3 ; beta1 g2 = -19/6*g2^3 ; beta1 g3 = -7*g3^3 ; beta2 g1 = 199/18*g1^5 + 9/2*g1^3*g2^2 + 44/3*g1^3*g3^2 - 17/6*g1^3*yt^2 - 5/6*g1^3*yb^2 - 5/2*g1^3*yl^2 ; beta2 g2 = 3/2*g1^2*g2^3 + 35/6*g2^5 + 12*g2^3*g3^2 - 3/2*g2^3*yt^2 - 3/2*g2^3*yb^2 - 1/2*g2^3*yl^2 ; beta2 g3 = 11/6*g1^2*g3^3 + 9/2*g2^2*g3^3 - 26*g3^5 - 2*g3^3*yt^2 - 2*g3^3*yb^2 ; beta1 yt = -17/12*g1^2*yt - 9/4*g2^2*yt - 8*g3^2*yt + 9/2*yt^3 + 3/2*yt*yb^2 + yt*yl^2 ; beta1 yb = -5/12*g1^2*yb - 9/4*g2^2*yb - 8*g3^2*yb + 3/2*yt^2*yb + 9/2*yb^3 + yb*yl^2 ; beta1 yl = -15/4*g1^2*yl - 9/4*g2^2*yl + 3*yt^2*yl + 3*yb^2*yl + 5/2*yl^3 <= group = [{name="U1", n=1, coupling="g1"}, {name="SU2", n=2, coupling="g2"}, {name="SU3", n=3, coupling="g3"}]@fermion = [{name="Q", generations=3, charge="1/6", reps={SU2="fund", SU3="fund"}}, {name="u", generations=3, charge="-2/3", reps={SU3="conj"}}, {name="d", generations=3, charge="1/3", reps={SU3="conj"}}, {name="L", generations=3, charge="-1/2", reps={SU2="fund"}}, {name="e", generations=3, charge="1"}]@scalar = [{name="H", charge="1/2", reps={SU2="fund"}}]@term = [{coupling="yt", text="Q[3](a,c) u[3](c) H(b) eps(a,b)"}, {coupling="yb", text="Q[3](a,c) d[3](c) H~(a)"}, {coupling="yl", text="L[3](a) e[3] H~(a)"}, {coupling="lam", text="H~(a) H(a) H~(b) H(b)"}]
 # One generation with complex couplings, and two without couplings.
-beta1 g1 = 43/18*g1^3 ; beta1 g2 = -35/6*g2^3 ; beta1 g3 = -29/3*g3^3 ; beta2 g1 = 217/54*g1^5 + 5/2*g1^3*g2^2 + 44/9*g1^3*g3^2 - 17/6*g1^3*yt*conj(yt) - 5/6*g1^3*yb*conj(yb) - 5/2*g1^3*yl*conj(yl) ; beta2 g2 = 5/6*g1^2*g2^3 - 161/6*g2^5 + 4*g2^3*g3^2 - 3/2*g2^3*yt*conj(yt) - 3/2*g2^3*yb*conj(yb) - 1/2*g2^3*yl*conj(yl) ; beta2 g3 = 11/18*g1^2*g3^3 + 3/2*g2^2*g3^3 - 230/3*g3^5 - 2*g3^3*yt*conj(yt) - 2*g3^3*yb*conj(yb) <= group = [{name="U1", n=1, coupling="g1"}, {name="SU2", n=2, coupling="g2"}, {name="SU3", n=3, coupling="g3"}]@fermion = [{name="Q", charge="1/6", reps={SU2="fund", SU3="fund"}}, {name="u", charge="-2/3", reps={SU3="conj"}}, {name="d", charge="1/3", reps={SU3="conj"}}, {name="L", charge="-1/2", reps={SU2="fund"}}, {name="e", charge="1"}]@scalar = [{name="H", charge="1/2", reps={SU2="fund"}}]@term = [{coupling="yt", value="complex", text="Q(a,c) u(c) H(b) eps(a,b)"}, {coupling="yb", value="complex", text="Q(a,c) d(c) H~(a)"}, {coupling="yl", value="complex", text="L(a) e H~(a)"}]
+beta1 g1 = 43/18*g1^3 ; beta1 g2 = -35/6*g2^3 ; beta1 g3 = -29/3*g3^3 ; beta2 g1 = 217/54*g1^5 + 5/2*g1^3*g2^2 + 44/9*g1^3*g3^2 - 17/6*g1^3*yt*conj(yt) - 5/6*g1^3*yb*conj(yb) - 5/2*g1^3*yl*conj(yl) ; beta2 g2 = 5/6*g1^2*g2^3 - 161/6*g2^5 + 4*g2^3*g3^2 - 3/2*g2^3*yt*conj(yt) - 3/2*g2^3*yb*conj(yb) - 1/2*g2^3*yl*conj(yl) ; beta2 g3 = 11/18*g1^2*g3^3 + 3/2*g2^2*g3^3 - 230/3*g3^5 - 2*g3^3*yt*conj(yt) - 2*g3^3*yb*conj(yb) ; beta1 yt = -17/12*g1^2*yt - 9/4*g2^2*yt - 8*g3^2*yt + 9/2*yt^2*conj(yt) + 3/2*yt*yb*conj(yb) + yt*yl*conj(yl) ; beta1 yb = -5/12*g1^2*yb - 9/4*g2^2*yb - 8*g3^2*yb + 3/2*yt*conj(yt)*yb + 9/2*yb^2*conj(yb) + yb*yl*conj(yl) ; beta1 yl = -15/4*g1^2*yl - 9/4*g2^2*yl + 3*yt*conj(yt)*yl + 3*yb*conj(yb)*yl + 5/2*yl^2*conj(yl) <= group = [{name="U1", n=1, coupling="g1"}, {name="SU2", n=2, coupling="g2"}, {name="SU3", n=3, coupling="g3"}]@fermion = [{name="Q", charge="1/6", reps={SU2="fund", SU3="fund"}}, {name="u", charge="-2/3", reps={SU3="conj"}}, {name="d", charge="1/3", reps={SU3="conj"}}, {name="L", charge="-1/2", reps={SU2="fund"}}, {name="e", charge="1"}]@scalar = [{name="H", charge="1/2", reps={SU2="fund"}}]@term = [{coupling="yt", value="complex", text="Q(a,c) u(c) H(b) eps(a,b)"}, {coupling="yb", value="complex", text="Q(a,c) d(c) H~(a)"}, {coupling="yl", value="complex", text="L(a) e H~(a)"}]
 beta1 g1 = 83/18*g1^3 ; beta1 g2 = -9/2*g2^3 ; beta1 g3 = -25/3*g3^3 ; beta2 g1 = 407/54*g1^5 + 7/2*g1^3*g2^2 + 88/9*g1^3*g3^2 ; beta2 g2 = 7/6*g1^2*g2^3 - 21/2*g2^5 + 8*g2^3*g3^2 ; beta2 g3 = 11/9*g1^2*g3^3 + 3*g2^2*g3^3 - 154/3*g3^5 <= group = [{name="U1", n=1, coupling="g1"}, {name="SU2", n=2, coupling="g2"}, {name="SU3", n=3, coupling="g3"}]@fermion = [{name="Q", generations=2, charge="1/6", reps={SU2="fund", SU3="fund"}}, {name="u", generations=2, charge="-2/3", reps={SU3="conj"}}, {name="d", generations=2, charge="1/3", reps={SU3="conj"}}, {name="L", generations=2, charge="-1/2", reps={SU2="fund"}}, {name="e", generations=2, charge="1"}]@scalar = [{name="H", charge="1/2", reps={SU2="fund"}}]
 "#;
 
-/// The answer that begins with the name M and the number 2 of loops, and goes on with lines joined by ` ; `.
-fn answer_of(alloc: Global, lines: &str) -> Result<ByteList, AllocError> {
+/// The answer that begins with these lines, and goes on with lines joined by ` ; `.
+fn answer_of(alloc: Global, head: &[u8], lines: &str) -> Result<ByteList, AllocError> {
     let mut answer = ByteList::new(alloc);
-    answer.extend(b"model M\nloops 2\n")?;
+    answer.extend(head)?;
     for line in lines.split(" ; ") {
         answer.extend(line.as_bytes())?;
         answer.extend(b"\n")?;
@@ -309,26 +331,40 @@ fn answer_of(alloc: Global, lines: &str) -> Result<ByteList, AllocError> {
     Ok(answer)
 }
 
-#[test]
-fn two_loops_have_published_coefficients(rt: HostRuntime) -> Result<(), AllocError> {
-    for row in TWO_LOOPS.lines() {
+/// Checks what these words write of each row of a table.
+fn check_rows<R: Threads + Sync + Abort>(
+    rt: &R,
+    alloc: Global,
+    words: &[&str],
+    head: &[u8],
+    table: &str,
+) -> Result<(), AllocError> {
+    for row in table.lines() {
         let Some((lines, keys)) = row.split_once(" <= ") else {
             assert!(rt; row.is_empty() || row.starts_with('#'), "{row}");
             continue;
         };
-        let file = file_of(rt.alloc(), keys)?;
-        let answer = answer_of(rt.alloc(), lines)?;
-        check(
-            &rt,
-            rt.alloc(),
-            DERIVE_TWO,
-            file.as_slice(),
-            0,
-            answer.as_slice(),
-            b"",
-        )?;
+        let file = file_of(alloc, keys)?;
+        let answer = answer_of(alloc, head, lines)?;
+        check(rt, alloc, words, file.as_slice(), 0, answer.as_slice(), b"")?;
     }
     Ok(())
+}
+
+#[test]
+fn one_loop_has_its_lines(rt: HostRuntime) -> Result<(), AllocError> {
+    check_rows(&rt, rt.alloc(), DERIVE, b"model M\nloops 1\n", ONE_LOOP)
+}
+
+#[test]
+fn two_loops_have_published_coefficients(rt: HostRuntime) -> Result<(), AllocError> {
+    check_rows(
+        &rt,
+        rt.alloc(),
+        DERIVE_TWO,
+        b"model M\nloops 2\n",
+        TWO_LOOPS,
+    )
 }
 
 #[test]
