@@ -10,6 +10,7 @@ mod generators;
 mod links;
 mod parts;
 
+pub use action::{Action, ActionList, Legs, actions_of, legs_of};
 pub use check::check_terms;
 pub use component::{Component, component_at};
 pub use fault::{CheckError, TermFault};

@@ -12,6 +12,7 @@ mod two_loop;
 mod two_loop_tests;
 mod yukawa;
 
+pub use casimirs::casimir_of;
 pub use gauge::gauge_one;
 pub use two_loop::{PolyList, gauge_two};
 pub use yukawa::{FracList, casimirs_of};

@@ -13,6 +13,7 @@ mod token;
 mod values;
 
 pub use assignments::copied;
+pub use basis::{Basis, basis_of};
 pub use directions::{Direction, DirectionList};
 pub use expansion::{Tensors, expand};
 pub use links::push_link;

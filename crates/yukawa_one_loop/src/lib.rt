@@ -13,4 +13,6 @@ mod products;
 mod stacks;
 
 pub use betas::yukawa_betas;
+pub use lines::{Lines, lines_of, scalar_square};
 pub use matrices::{MatrixList, YukawaMatrices};
+pub use products::identity_links;
