@@ -1,1 +1,2 @@
 pub mod YukawaBeta
+pub mod ScalarBeta

@@ -14,6 +14,7 @@ pub use action::{Action, ActionList, Legs, actions_of, legs_of};
 pub use check::check_terms;
 pub use component::{Component, component_at};
 pub use fault::{CheckError, TermFault};
+pub use links::generator_links;
 
 #[cfg(test)]
 mod tests;
