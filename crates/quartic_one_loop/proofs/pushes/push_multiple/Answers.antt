@@ -1,0 +1,32 @@
+use Rattle.std.proofs.Common.{ℕ, List, ap₂, arith, subst}
+use Rattle.std.proofs.lemmas.Option.{slice_get_within, get_or_from_slice_get}
+use Rattle.beta_poly.specs.Exponents.{AllWithin}
+use Rattle.beta_poly.specs.Polynomial.{Polynomial, mul_poly}
+use Rattle.beta_poly.proofs.ExponentLaws.{products_fit_within}
+use Rattle.sparse_tensor.specs.declared.values.Value.{Value}
+use Rattle.sparse_tensor.specs.Tensor.{entries_of}
+use Rattle.term_expand.proofs.Mapped.{mapped_step}
+use Rattle.yukawa_one_loop.specs.Entries.{with_value}
+use Rattle.yukawa_one_loop.proofs.Entrywise.{times_additive, mapped_end}
+use Rattle.quartic_one_loop.proofs.Adding.{adds_image}
+use Rattle.quartic_one_loop.proofs.pushes.push_multiple.Goals as goal
+
+pub mul-requires : goal.mul-requires
+mul-requires c =
+    let es = entries_of c.args.tensor.now in
+    let e : List ℕ × Polynomial = (c.item.result.0.now, c.item.result.1.now) in
+    products_fit_within 4 4 c.args.factor.now e.1 (omega arith) c.requires.factor
+    (subst (λ x. AllWithin 4 x.1) (get_or_from_slice_get es c.loop-place.place e e c.item.ensures) (c.requires.tensor c.loop-place.place e (slice_get_within es c.loop-place.place e c.item.ensures)))
+
+pub loop-place-preserved : goal.loop-place-preserved
+loop-place-preserved c =
+    let e : List ℕ × Polynomial = (c.item.result.0.now, c.item.result.1.now) in
+    let v : Value = record { key = c.in_ok-copied.field-0; value = c.in_ok-mul.field-0 } in
+    mapped_step (with_value (mul_poly c.args.factor.now)) (entries_of c.args.tensor.now) c.loop-place.place e v c.args.values.now c.loop-place.values c.push.new.self c.item.ensures
+    (ap₂ (λ k p. record { key = k; value = p }) c.in_ok-copied.ensures c.in_ok-mul.ensures.value) c.loop-place.invariant c.in_ok-push.ensures.ok
+
+pub returns-clause-value : goal.returns-clause-value
+returns-clause-value c model f has =
+    let t = c.args.tensor.now in
+    adds_image model (mul_poly c.args.factor.now) (times_additive c.args.factor.now) f t c.args.values.now c.loop-place.values has
+    (mapped_end (with_value (mul_poly c.args.factor.now)) (entries_of t) c.loop-place.place c.args.values.now c.loop-place.values (omega (arith, c.loop-place-test.false, c.len-place-end.ensures)) c.loop-place.invariant)

@@ -1,0 +1,9 @@
+pub mod Boxes
+pub mod ChargeParts
+pub mod FewDummies
+pub mod FourLegs
+pub mod GaugePairs
+pub mod LegParts
+pub mod LoopSums
+pub mod OrderShares
+pub mod SlicedEntries

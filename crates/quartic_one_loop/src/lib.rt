@@ -1,0 +1,25 @@
+//! The beta functions of scalar couplings at one loop.
+#![tactic(auto)]
+
+mod betas;
+mod boxes;
+mod charges;
+mod conjugates;
+mod copies;
+mod formed;
+#[cfg(test)]
+mod gauge_tests;
+mod gauges;
+mod laws;
+#[cfg(test)]
+mod leg_tests;
+mod legs;
+#[cfg(test)]
+mod loop_tests;
+mod loops;
+mod pairs;
+mod pushes;
+mod slices;
+
+pub use betas::quartic_betas;
+pub use laws::beta_functions_are_symmetric;
