@@ -1,4 +1,4 @@
--- The conjugate of the beta tensor: sums of conjugate values at the partners of scalars.
+-- The conjugate of the Yukawa beta tensor: sums of conjugate values at the partners of scalars.
 use Rattle.std.specs.Prelude.{◌≡◌, ◌<◌, ◌≤◌, ◌+◌, ℕ, zero, suc, ⊤, List, [], ◌∷◌, ◌++◌, map, length, slice_get, Option, Some, None, option_map}
 use Rattle.std.specs.List.{All}
 use Rattle.std.proofs.Common.{take, get_or, subst, refl, sym, ap, ap₂, ◌∙◌, arith, Ordering, Less, Equal, Greater}
@@ -20,7 +20,7 @@ use Rattle.model_core.specs.Valid.{IsValid}
 use Rattle.model_core.proofs.CoordinateLaws.{partner_twice, partner_place, scalar_told}
 use Rattle.term_expand.proofs.Legs.{of_three}
 use Rattle.beta_formulas.specs.YukawaBeta.{yukawa_beta, yukawa_beta_at}
-use Rattle.derive_core.specs.YukawaBlocks.{conjugate_beta, conjugate_beta_at}
+use Rattle.derive_core.specs.BlockBetas.{conjugate_beta, conjugate_beta_at}
 use Rattle.derive_core.specs.SideBetas.{IsConjugateValue}
 use Rattle.derive_core.proofs.TensorEntries.{entry_long, value_nonzero}
 

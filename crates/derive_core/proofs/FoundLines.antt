@@ -1,19 +1,14 @@
 -- The lines of directions that are found are those of the directions that are meant, and what each step adds to them.
-use Rattle.std.specs.Prelude.{◌≡◌, ◌≤◌, ◌+◌, ◌<◌, ◌==◌, ◌&&◌, ◌||◌, if◌then◌else◌, ℕ, suc, Bool, true, false, not, cond, List, [], ◌∷◌, ◌++◌, length, take, drop, get_or, slice_get, Option, Some}
+use Rattle.std.specs.Prelude.{◌≡◌, ◌≤◌, ◌+◌, ◌<◌, ◌||◌, if◌then◌else◌, ℕ, suc, Bool, true, false, not, cond, List, [], ◌∷◌, ◌++◌, length, take, drop, get_or, slice_get, Option, Some}
 use Rattle.std.specs.List.{flat_map, list_any}
 use Rattle.std.proofs.Common.{refl, sym, ap, ap₂, ◌∙◌, arith, drop-cons, append_assoc}
 use Rattle.std.proofs.lemmas.List.{append-nil, take_more, drop_all}
 use Rattle.std.proofs.lemmas.Option.{slice_get_within, slice_get-get_or, get_or_from_slice_get}
-use Rattle.sparse_tensor.specs.Tensor.{rank_of}
-use Rattle.model_core.specs.declared.term.TermKind.{TermKind}
-use Rattle.model_core.specs.declared.term.TermKind.TheVariants.{Fermion, Scalar}
 use Rattle.model_core.specs.declared.model.Model.{Model}
-use Rattle.model_core.specs.Content.{is_fermionic}
 use Rattle.model_core.specs.Directions.{Direction, directions}
 use Rattle.term_expand.specs.declared.directions.Direction.{Direction as Found}
 use Rattle.term_expand.specs.declared.token.Token.{Token}
 use Rattle.term_expand.specs.Expansion.{IsDirection, AreDirections}
-use Rattle.term_expand.specs.Texts.{leg_count}
 use Rattle.span_solver.specs.BlockDirections.{same_name, is_named, block_directions}
 use Rattle.derive_core.specs.Blocks.{name_of, is_of, directions_of}
 use Rattle.derive_core.specs.LineSteps.{found_has_line, found_line, found_lines_after}
@@ -81,12 +76,8 @@ found_end told ds i over = ap (found_lines_after told (take i ds)) (drop_all i d
 
 -- ---- found and meant
 
-by_kind : (kind : TermKind) (rank : ℕ) → rank ≡ 1 + leg_count kind → (rank == 4) ≡ is_fermionic kind
-by_kind Fermion rank is = ap (λ n. n == 4) is
-by_kind Scalar rank is = ap (λ n. n == 4) is
-
 has_line_same : (meant : Direction) (found : Found) → IsDirection meant found → found_has_line found ≡ has_line meant
-has_line_same meant found is = ap₂ (λ b symbol. b && not symbol.conj) (by_kind meant.kind (rank_of found.tensor) is.numbers.rank_is) is.symbol
+has_line_same meant found is = ap (λ symbol. not symbol.conj) is.symbol
 
 count_same : (name : List Token) (meants : List Direction) (founds : List Found) → AreDirections meants founds → length (block_directions founds name) ≡ length (directions_of name meants)
 count_same name [] [] all = refl

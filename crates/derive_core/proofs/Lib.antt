@@ -15,6 +15,7 @@ pub mod FewDirections
 pub mod FirstFaults
 pub mod FoundLines
 pub mod NameOrder
+pub mod NameSizes
 pub mod OwnDirections
 pub mod SecondLines
 pub mod Solvers

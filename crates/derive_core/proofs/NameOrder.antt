@@ -8,7 +8,7 @@ use Rattle.std.proofs.lemmas.Bool.Decides.{nat_tests}
 use Rattle.exact_algebra.specs.Sums.{nat_equal}
 use Rattle.term_expand.specs.declared.token.Token.{Token}
 use Rattle.span_solver.specs.BlockDirections.{same_bool, same_token, same_name}
-use Rattle.derive_core.specs.YukawaBlocks.{order_of_token, name_cmp}
+use Rattle.derive_core.specs.BlockBetas.{order_of_token, name_cmp}
 
 -- ---- a total order
 

@@ -28,7 +28,7 @@ pub record IsOwn (model : Model) (e : CouplingEntry) (d : Direction) : Type 0 wh
 
 -- ---- numbers at other keys
 
-with_none : (c : Option Coordinate) → with_coordinate c None ≡ None
+pub with_none : (c : Option Coordinate) → with_coordinate c None ≡ None
 with_none (Some c) = refl
 with_none None = refl
 

@@ -13,9 +13,10 @@ use Rattle.model_core.proofs.ValidLaws.{valid_parts, parts_groups, group_limit}
 use Rattle.derive_core.specs.declared.betas.Line.{Line}
 use Rattle.derive_core.specs.Lines.{gauge_line, second_of, gauge_lines}
 
-pub swapped : {A B : Type 0} → A ⊎ B → B ⊎ A
-swapped (inl x) = inr x
-swapped (inr x) = inl x
+-- a model with numbers that are too large for the gauge couplings
+pub large_gauge : {A B C : Type 0} → A ⊎ B → B ⊎ (C ⊎ A)
+large_gauge (inl x) = inr (inr x)
+large_gauge (inr x) = inl x
 
 -- one beta function for each group, and few groups
 pub few_values : (model : Model) (values : List Polynomial) → IsValid model → values ≡ map (gauge_two_loop model) (enumerate_from 0 model.groups) → length values ≤ 4

@@ -4,11 +4,11 @@ use Rattle.std.specs.Prelude.{◌⊎◌, slice_get, IfOk}
 use Rattle.std.specs.List.{All}
 use Rattle.std.proofs.lemmas.List.{take_more}
 use Rattle.std.proofs.lemmas.Option.{slice_get_within, get_or_from_slice_get}
-use Rattle.sparse_tensor.specs.Tensor.{Tensor, HasValues}
+use Rattle.sparse_tensor.specs.Tensor.{Tensor, HasValues, rank_of}
 use Rattle.sparse_tensor.specs.declared.fault.TensorFault.{TensorFault}
 use Rattle.model_core.specs.declared.model.Model.{Model}
 use Rattle.model_core.specs.Directions.{directions}
-use Rattle.span_solver.specs.Block.{IsBlock}
+use Rattle.span_solver.specs.Block.{IsBlock, IsOfRank}
 use Rattle.span_solver.specs.BlockDirections.{same_name}
 use Rattle.span_solver.specs.Dependence.{Numbers}
 use Rattle.term_expand.specs.declared.token.Token.{Token}
@@ -17,7 +17,7 @@ use Rattle.derive_core.specs.Blocks.{numbers_of}
 use Rattle.derive_core.specs.Outcomes.{IsOutcome}
 use Rattle.derive_core.specs.Surveys.{IsSolver, HasSolver}
 use Rattle.derive_core.specs.Works.{IsSolverAmong, IsOutcomeOf}
-use Rattle.derive_core.specs.YukawaBlocks.{block_beta}
+use Rattle.derive_core.specs.BlockBetas.{block_beta}
 use Rattle.derive_core.specs.declared.outcomes.Outcome.{Outcome}
 use Rattle.derive_core.specs.declared.survey.Solver.{Solver}
 use Rattle.derive_core.proofs.NameOrder.{name_itself}
@@ -34,7 +34,11 @@ pub named_block : (model : Model) (solvers : List Solver) (name : List Token) (f
 named_block model solvers name found have among =
     subst (λ n. IsBlock (numbers_of n (directions model)) found.block) among.named (solver_is model solvers name found have among).block
 
-pub outcome_found : (model : Model) (name : List Token) (t : Tensor) (r : Result Outcome TensorFault) (ds : List Numbers) → HasValues 4 (block_beta model name) t → ds ≡ numbers_of name (directions model)
+pub named_rank : (model : Model) (solvers : List Solver) (name : List Token) (found : Solver) (t : Tensor) → HaveSolvers model solvers → IsSolverAmong solvers name found → rank_of t ≡ suc (length name) → IsOfRank (rank_of t) found.block
+named_rank model solvers name found t have among rank =
+    subst (λ n. IsOfRank n found.block) (ap (λ n. suc (length n)) among.named ∙ sym rank) (solver_is model solvers name found have among).rank
+
+pub outcome_found : (model : Model) (name : List Token) (t : Tensor) (r : Result Outcome TensorFault) (ds : List Numbers) → HasValues (suc (length name)) (block_beta model name) t → ds ≡ numbers_of name (directions model)
     → IfOk r (IsOutcomeOf ds t) → IfOk r (IsOutcome model name)
 outcome_found model name t (Ok outcome) ds has are found = outcome_is model name t outcome ds has are found
 outcome_found model name t (Err bad) ds has are found = tt

@@ -1,5 +1,5 @@
 -- What a block has of a tensor with the values of its beta tensor is what it has of the beta tensor.
-use Rattle.std.proofs.Common.{◌≡◌, ◌≢◌, ℕ, zero, suc, Bool, true, false, cond, List, [], ◌∷◌, map, length, Option, Some, None, refl, sym, ap, subst, ◌∙◌, arith, true≢false}
+use Rattle.std.proofs.Common.{◌≡◌, ℕ, zero, suc, Bool, true, false, List, [], ◌∷◌, map, length, Option, Some, None, refl, sym, ap, subst, ◌∙◌, inl, inr, arith, true≢false}
 use Rattle.std.specs.Prelude.{◌==◌, slice_get, if◌then◌else◌}
 use Rattle.std.specs.List.{filter}
 use Rattle.std.proofs.lemmas.Bool.Decides.{nat_tests}
@@ -20,12 +20,13 @@ use Rattle.derive_core.specs.Blocks.{name_of, is_of, directions_of, tensor_of, n
 use Rattle.derive_core.specs.Outcomes.{IsOutcome}
 use Rattle.derive_core.specs.Surveys.{HasSolver}
 use Rattle.derive_core.specs.Works.{IsOutcomeOf}
-use Rattle.derive_core.specs.YukawaBlocks.{name_at, side_beta, block_beta}
+use Rattle.derive_core.specs.BlockBetas.{IsLegCount, name_at, side_beta, block_beta}
 use Rattle.derive_core.specs.declared.outcomes.Outcome.{Outcome}
 use Rattle.derive_core.specs.declared.outcomes.Outcome.TheVariants.{Spanned, Unspanned}
 use Rattle.derive_core.specs.declared.survey.Solver.{Solver}
 use Rattle.derive_core.proofs.ConstantParts.{value_elsewhere}
 use Rattle.derive_core.proofs.NameOrder.{name_same}
+use Rattle.derive_core.proofs.NameSizes.{length-name_at}
 
 -- ---- keys of another length
 
@@ -46,19 +47,25 @@ no_coordinates (leg ∷ legs) (x ∷ key) other =
 pub places_elsewhere : (model : Model) (f : List Coordinate → Polynomial) (places : List ℕ) → (length places ≡ 3 → ⊥) → at_places zero_poly (legs_of model Fermion) f places ≡ zero_poly
 places_elsewhere model f places other = ap (value_or zero_poly f) (no_coordinates (legs_of model Fermion) places other)
 
-pub side_elsewhere : (model : Model) (side : ℕ) (places : List ℕ) → (length places ≡ 3 → ⊥) → side_beta model side places ≡ zero_poly
-side_elsewhere model zero places other = places_elsewhere model _ places other
-side_elsewhere model (suc zero) places other = places_elsewhere model _ places other
-side_elsewhere model (suc (suc side)) places other = refl
+-- neither three places nor four
+pub side_elsewhere : (model : Model) (side : ℕ) (places : List ℕ) → (IsLegCount (length places) → ⊥) → side_beta model side places ≡ zero_poly
+side_elsewhere model side [] other = refl
+side_elsewhere model side (j ∷ []) other = refl
+side_elsewhere model side (j ∷ k ∷ []) other = refl
+side_elsewhere model side (j ∷ k ∷ a ∷ []) other = absurd (other (inl refl))
+side_elsewhere model side (a ∷ b ∷ c ∷ d ∷ []) other = absurd (other (inr refl))
+side_elsewhere model side (a ∷ b ∷ c ∷ d ∷ e ∷ rest) other = refl
 
-either_zero : (b : Bool) (p : Polynomial) → p ≡ zero_poly → (if b then p else zero_poly) ≡ zero_poly
-either_zero true p none = none
-either_zero false p none = refl
-
-block_beta-elsewhere : (model : Model) (name : List Token) (key : List ℕ) → (length key ≡ 4 → ⊥) → block_beta model name key ≡ zero_poly
+-- a side and a place for each token of the name
+block_beta-elsewhere : (model : Model) (name : List Token) (key : List ℕ) → (length key ≡ suc (length name) → ⊥) → block_beta model name key ≡ zero_poly
 block_beta-elsewhere model name [] other = refl
-block_beta-elsewhere model name (side ∷ places) other =
-    either_zero (same_name (name_at model (side ∷ places)) name) (side_beta model side places) (side_elsewhere model side places (λ same. other (ap suc same)))
+block_beta-elsewhere model name (side ∷ places) other = by_name (same_name (name_at model (side ∷ places)) name) refl
+  where
+    by_name : (b : Bool) → same_name (name_at model (side ∷ places)) name ≡ b → (if b then side_beta model side places else zero_poly) ≡ zero_poly
+    by_name true named =
+        side_elsewhere model side places
+        (λ legs. other (ap suc (sym (length-name_at model side places legs) ∙ ap length (name_same (name_at model (side ∷ places)) name named))))
+    by_name false named = refl
 
 -- ---- the same function
 
@@ -69,11 +76,11 @@ by_length n f g same other key = by_test (length key == n) refl
     by_test true is = same key (grind (arith, nat_tests))
     by_test false is = other key (λ e. true≢false (grind (arith, nat_tests)))
 
-pub same_function : (model : Model) (name : List Token) (t : Tensor) → HasValues 4 (block_beta model name) t → value t ≡ block_beta model name
+pub same_function : (model : Model) (name : List Token) (t : Tensor) → HasValues (suc (length name)) (block_beta model name) t → value t ≡ block_beta model name
 same_function model name t has =
-    fun_ext (by_length 4 (value t) (block_beta model name) has.value_is (λ key other. value_elsewhere (rank_of t) (entries_of t) key t.1.keys (λ same. other (same ∙ has.rank_is)) ∙ sym (block_beta-elsewhere model name key other)))
+    fun_ext (by_length (suc (length name)) (value t) (block_beta model name) has.value_is (λ key other. value_elsewhere (rank_of t) (entries_of t) key t.1.keys (λ same. other (same ∙ has.rank_is)) ∙ sym (block_beta-elsewhere model name key other)))
 
-pub outcome_is : (model : Model) (name : List Token) (t : Tensor) (outcome : Outcome) (ds : List Numbers) → HasValues 4 (block_beta model name) t → ds ≡ numbers_of name (directions model)
+pub outcome_is : (model : Model) (name : List Token) (t : Tensor) (outcome : Outcome) (ds : List Numbers) → HasValues (suc (length name)) (block_beta model name) t → ds ≡ numbers_of name (directions model)
     → IsOutcomeOf ds t outcome → IsOutcome model name outcome
 outcome_is model name t (Spanned coordinates) ds has are outcome =
     subst (λ f. AreCoordinates (numbers_of name (directions model)) f coordinates) (same_function model name t has) (subst (λ d. AreCoordinates d (value t) coordinates) are outcome)

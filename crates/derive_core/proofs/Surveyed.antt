@@ -78,9 +78,9 @@ module _ (model : Model) (founds : List Found) (valid : IsValid model) (all : Ar
   free_solver solver is independent rank = record {
     is = record {
       block = subst (λ numbers. IsBlock numbers solver.block) (numbers_in model founds all solver.name) is;
-      rank = λ three.
-          let four : 1 + length solver.name ≡ 4 = omega (arith, three) in
-          subst (λ n. IsOfRank n solver.block) four (rank (1 + length solver.name) (all_forms solver.name (directions model) founds (λ d there. named_legs model d valid there) all));
+      rank =
+          let more : 1 + length solver.name ≡ suc (length solver.name) = omega arith in
+          subst (λ n. IsOfRank n solver.block) more (rank (1 + length solver.name) (all_forms solver.name (directions model) founds (λ d there. named_legs model d valid there) all));
     };
     independent = subst AreIndependent (numbers_in model founds all solver.name) independent;
   }

@@ -7,14 +7,14 @@ use Rattle.std.proofs.lemmas.List.Sums.{prefix_len-le-length}
 use Rattle.beta_poly.specs.Polynomial.{Polynomial, zero_poly}
 use Rattle.sparse_tensor.specs.Tensor.{Tensor, HasValues, entries_of, value}
 use Rattle.model_core.specs.declared.model.Model.{Model}
-use Rattle.model_core.specs.Content.{is_before, is_fermionic}
+use Rattle.model_core.specs.Content.{is_before}
 use Rattle.model_core.specs.Directions.{Direction, directions}
 use Rattle.term_expand.specs.declared.token.Token.{Token}
 use Rattle.span_solver.specs.BlockDirections.{same_name}
 use Rattle.derive_core.specs.Blocks.{name_of, is_of}
 use Rattle.derive_core.specs.Outcomes.{HasCoupling, HasBeta, HasSomething, IsTold, IsOutcome, Ascend, IsAmong, AreTold}
-use Rattle.derive_core.specs.Works.{is_at, IsTriple, AreSome, AreKept, TellsOf, MayBeTold, TellsDirections, TellsEntries, IsWholeTold}
-use Rattle.derive_core.specs.YukawaBlocks.{name_cmp, name_at, side_beta, block_beta}
+use Rattle.derive_core.specs.Works.{is_at, HasLegs, AreSome, AreKept, TellsOf, MayBeTold, TellsDirections, TellsEntries, IsWholeTold}
+use Rattle.derive_core.specs.BlockBetas.{IsLegCount, name_cmp, name_at, side_beta, block_beta}
 use Rattle.derive_core.specs.declared.outcomes.Outcome.{Outcome}
 use Rattle.derive_core.specs.declared.outcomes.Told.{Told}
 use Rattle.derive_core.proofs.NameOrder.{name_same, name_itself}
@@ -38,7 +38,7 @@ told_put model name outcome told some may is new =
       some = record {
         order = ascend_put x told some.order new;
         each = All-from_recursion (IsTold model) put (all_put (IsTold model) told place x (recursion_from_All (IsTold model) told some.each) (record { something = may.something; outcome = is }));
-        triples = All-from_recursion IsTriple put (all_put IsTriple told place x (recursion_from_All IsTriple told some.triples) (record { three = may.three }));
+        legs = All-from_recursion HasLegs put (all_put HasLegs told place x (recursion_from_All HasLegs told some.legs) (record { count = may.legs }));
       };
       kept = λ other among. among_put other told place x among;
       among = put_among told place x (prefix_len-le-length (λ (first : Told). is_before (name_cmp first.block name)) told);
@@ -51,15 +51,15 @@ told_more model name outcome told new place some may is place_is at new_is =
     (told_put model name outcome told some may is (ap (λ p. is_at told p name) (sym place_is) ∙ at))
 
 pub none_told : (model : Model) → AreSome model []
-none_told model = record { order = tt; each = All-from_recursion (IsTold model) [] tt; triples = All-from_recursion IsTriple [] tt }
+none_told model = record { order = tt; each = All-from_recursion (IsTold model) [] tt; legs = All-from_recursion HasLegs [] tt }
 
 -- ---- names that may be told
 
-pub coupling_told : (model : Model) (place : ℕ) (direction : Direction) → slice_get (directions model) place ≡ Some direction → is_fermionic direction.kind ≡ true → length (name_of direction) ≡ 3 → MayBeTold model (name_of direction)
-coupling_told model place direction stands fermionic three =
+pub coupling_told : (model : Model) (place : ℕ) (direction : Direction) → slice_get (directions model) place ≡ Some direction → IsLegCount (length (name_of direction)) → MayBeTold model (name_of direction)
+coupling_told model place direction stands legs =
     record {
-      something = inl (record { place = place; direction = direction; stands = stands; fermionic = fermionic; in_block = name_itself (name_of direction) });
-      three = three;
+      something = inl (record { place = place; direction = direction; stands = stands; in_block = name_itself (name_of direction) });
+      legs = legs;
     }
 
 -- the part of the beta tensor at a component that belongs to the block of its name
@@ -67,9 +67,9 @@ own_part : (model : Model) (side : ℕ) (places : List ℕ) (b : Bool) → b ≡
 own_part model side places true is p some = some
 own_part model side places false is p some = absurd (true≢false (sym is))
 
-pub beta_told : (model : Model) (side : ℕ) (places : List ℕ) → length (name_at model (side ∷ places)) ≡ 3 → side_beta model side places ≢ zero_poly → MayBeTold model (name_at model (side ∷ places))
-beta_told model side places three some =
+pub beta_told : (model : Model) (side : ℕ) (places : List ℕ) → IsLegCount (length (name_at model (side ∷ places))) → side_beta model side places ≢ zero_poly → MayBeTold model (name_at model (side ∷ places))
+beta_told model side places legs some =
     record {
       something = inr (record { key = side ∷ places; other = own_part model side places (same_name (name_at model (side ∷ places)) (name_at model (side ∷ places))) (name_itself (name_at model (side ∷ places))) (side_beta model side places) some });
-      three = three;
+      legs = legs;
     }

@@ -17,11 +17,12 @@ use Rattle.term_expand.specs.Expansion.{AreDirections, IsDirection}
 use Rattle.term_expand.specs.Texts.{leg_count}
 use Rattle.derive_core.specs.Blocks.{name_of}
 use Rattle.derive_core.specs.Outcomes.{IsAmong}
-use Rattle.derive_core.specs.Works.{AreSome, AreKept, TellsOf, MayBeTold, TellsDirections, AreDirectionsTold, TellsEntries, AreEntriesTold, IsEntryKey}
-use Rattle.derive_core.specs.YukawaBlocks.{order_of_token, in_order, name_at, side_beta}
+use Rattle.derive_core.specs.Works.{AreSome, AreKept, TellsOf, MayBeTold, TellsDirections, AreDirectionsTold, TellsEntries, AreEntriesTold, AreSideValues, AreSidesTold, IsEntryKey}
+use Rattle.derive_core.specs.BlockBetas.{IsLegCount, name_at, side_beta}
 use Rattle.derive_core.specs.declared.outcomes.Told.{Told}
 use Rattle.derive_core.proofs.BlockNumbers.{meant_at, IsMeantAt}
 use Rattle.derive_core.proofs.Elements.{in_at}
+use Rattle.derive_core.proofs.NameSizes.{length-name_at}
 use Rattle.derive_core.proofs.Surveyed.{named_legs}
 use Rattle.derive_core.proofs.TellingSteps.{none_told, coupling_told, beta_told}
 use Rattle.derive_core.proofs.TensorEntries.{entry_long, value_nonzero}
@@ -37,44 +38,26 @@ le_split (suc p) (suc n) h = elim (le_split p n (omega arith)) [ inl less ↦ in
 same_direction : (x y : Direction) → Some x ≡ Some y → x ≡ y
 same_direction x y same = cc
 
-rank_of_kind : (kind : TermKind) → is_fermionic kind ≡ true → 1 + leg_count kind ≡ 4
-rank_of_kind Fermion is = refl
-rank_of_kind Scalar is = absurd (true≢false (sym is))
-
-kind_of_rank : (kind : TermKind) → 1 + leg_count kind ≡ 4 → (is_fermionic kind ≡ true) × (leg_count kind ≡ 3)
-kind_of_rank Fermion is = (refl, refl)
-kind_of_rank Scalar is = let never : ⊥ = omega (arith, is) in absurd never
+legs_of_kind : (kind : TermKind) → IsLegCount (leg_count kind)
+legs_of_kind Fermion = inl refl
+legs_of_kind Scalar = inr refl
 
 module _ (model : Model) (founds : List Found) (all : AreDirections (directions model) founds) (place : ℕ) (found : Found) (at : slice_get founds place ≡ Some found) where
   abbrev meant : IsMeantAt (directions model) place found
   meant = meant_at (directions model) founds place found all at
 
-  -- a direction of four legs has nothing to tell
-  pub scalar_direction : (told : List Told) → (rank_of found.tensor ≡ 4 → ⊥) → AreDirectionsTold model place told → AreDirectionsTold model (place + 1) told
-  scalar_direction told other before =
-      record {
-        some = before.some;
-        tells = λ p direction within stands fermionic. elim (le_split p place (omega arith)) [
-          | inl less ↦ before.tells p direction less stands fermionic
-          | inr same ↦
-              let is : direction ≡ meant.meant = same_direction direction meant.meant (sym stands ∙ ap (slice_get (directions model)) same ∙ meant.stands) in
-              absurd (other (meant.is.numbers.rank_is ∙ ap (λ d. 1 + leg_count d.kind) (sym is) ∙ rank_of_kind direction.kind fermionic))
-        ];
-      }
-
-  -- a Yukawa coupling's name may be told
-  pub direction_told : IsValid model → rank_of found.tensor ≡ 4 → MayBeTold model found.block
-  direction_told valid rank =
-      let kind = kind_of_rank meant.meant.kind (sym meant.is.numbers.rank_is ∙ rank) in
-      subst (MayBeTold model) (sym meant.is.block)
-      (coupling_told model place meant.meant meant.stands kind.0 (named_legs model meant.meant valid (in_at (directions model) place meant.meant meant.stands) ∙ kind.1))
+  -- its name may be told
+  pub direction_told : IsValid model → MayBeTold model found.block
+  direction_told valid =
+      let named = named_legs model meant.meant valid (in_at (directions model) place meant.meant meant.stands) in
+      subst (MayBeTold model) (sym meant.is.block) (coupling_told model place meant.meant meant.stands (subst IsLegCount (sym named) (legs_of_kind meant.meant.kind)))
 
   pub direction_more : (told new : List Told) → AreDirectionsTold model place told → TellsOf model found.block told new → AreDirectionsTold model (place + 1) new
   direction_more told new before more =
       record {
         some = more.some;
-        tells = λ p direction within stands fermionic. elim (le_split p place (omega arith)) [
-          | inl less ↦ more.kept (name_of direction) (before.tells p direction less stands fermionic)
+        tells = λ p direction within stands. elim (le_split p place (omega arith)) [
+          | inl less ↦ more.kept (name_of direction) (before.tells p direction less stands)
           | inr same ↦
               let is : direction ≡ meant.meant = same_direction direction meant.meant (sym stands ∙ ap (slice_get (directions model)) same ∙ meant.stands) in
               subst (λ n. IsAmong n new) (meant.is.block ∙ ap name_of (sym is)) more.among
@@ -87,31 +70,17 @@ directions_more model founds place found told (Ok new) all at before more = dire
 directions_more model founds place found told (Err bad) all at before more = tt
 
 pub no_directions_told : (model : Model) → AreDirectionsTold model 0 []
-no_directions_told model = record { some = none_told model; tells = λ p direction within stands fermionic. let never : ⊥ = omega arith in absurd never }
+no_directions_told model = record { some = none_told model; tells = λ p direction within stands. let never : ⊥ = omega arith in absurd never }
 
 -- ---- entries
 
-in_order-length : (b : Bool) (x y : Token) → length (if b then y ∷ x ∷ [] else x ∷ y ∷ []) ≡ 2
-in_order-length true x y = refl
-in_order-length false x y = refl
-
-three_tokens : (xs : List Token) (x : Token) → length xs ≡ 2 → length (xs ++ x ∷ []) ≡ 3
-three_tokens xs x two = length-append xs (x ∷ []) ∙ ap (λ n. n + 1) two
-
-name_length : (model : Model) (side : ℕ) (key : List ℕ) → length key ≡ 3 → length (name_at model (side ∷ key)) ≡ 3
-name_length model side (j ∷ k ∷ a ∷ []) three = three_tokens _ _ (in_order-length _ _ _)
-name_length model side [] three = let never : ⊥ = omega (arith, three) in absurd never
-name_length model side (j ∷ []) three = let never : ⊥ = omega (arith, three) in absurd never
-name_length model side (j ∷ k ∷ []) three = let never : ⊥ = omega (arith, three) in absurd never
-name_length model side (j ∷ k ∷ a ∷ b ∷ rest) three = let never : ⊥ = omega (arith, three) in absurd never
-
 pub entry_told : (model : Model) (side : ℕ) (key : List ℕ) → IsEntryKey model side key → MayBeTold model (name_at model (side ∷ key))
-entry_told model side key is = beta_told model side key (name_length model side key is.long) is.other
+entry_told model side key is = beta_told model side key (subst IsLegCount (sym (length-name_at model side key is.long)) is.long) is.other
 
-pub entry_key : (model : Model) (side : ℕ) (t : Tensor) (place : ℕ) (e : List ℕ × Polynomial) → HasValues 3 (side_beta model side) t → slice_get (entries_of t) place ≡ Some e → IsEntryKey model side e.0
-entry_key model side t place e has there =
-    let long = entry_long 3 t place e has.rank_is there in
-    record { long = long; other = λ none. value_nonzero t place e there (has.value_is e.0 long ∙ none) }
+pub entry_key : (model : Model) (side : ℕ) (t : Tensor) (place : ℕ) (e : List ℕ × Polynomial) → AreSideValues model side t → slice_get (entries_of t) place ≡ Some e → IsEntryKey model side e.0
+entry_key model side t place e are there =
+    let long = entry_long (rank_of t) t place e refl there in
+    record { long = subst IsLegCount (sym long) are.legs; other = λ none. value_nonzero t place e there (are.values.value_is e.0 long ∙ none) }
 
 same_entry : (x y : List ℕ × Polynomial) → Some x ≡ Some y → x ≡ y
 same_entry x y same = cc
@@ -133,3 +102,15 @@ entries_more model side t place e old told new there before more =
 pub no_entries_told : (model : Model) (side : ℕ) (t : Tensor) (told : List Told) → AreSome model told → AreEntriesTold model side t 0 told told
 no_entries_told model side t told some =
     record { some = some; kept = λ name among. among; tells = λ p d within stands. let never : ⊥ = omega arith in absurd never }
+
+-- both sides
+pub sides_told : (model : Model) (plain conjugate : Tensor) (old told : List Told) (r : Result (List Told) TensorFault) → AreEntriesTold model 0 plain (length (entries_of plain)) old told
+    → IfOk r (AreEntriesTold model 1 conjugate (length (entries_of conjugate)) told) → IfOk r (AreSidesTold model plain conjugate old)
+sides_told model plain conjugate old told (Ok new) first second =
+    record {
+      some = second.some;
+      kept = λ name among. second.kept name (first.kept name among);
+      plain = λ place e within there. second.kept (name_at model (0 ∷ e.0)) (first.tells place e within there);
+      conjugate = second.tells;
+    }
+sides_told model plain conjugate old told (Err bad) first second = tt

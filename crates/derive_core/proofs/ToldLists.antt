@@ -8,7 +8,7 @@ use Rattle.term_expand.specs.declared.token.Token.{Token}
 use Rattle.span_solver.specs.BlockDirections.{same_name}
 use Rattle.derive_core.specs.Outcomes.{Ascend, IsAmong, IsTold}
 use Rattle.derive_core.specs.Works.{is_at, is_named}
-use Rattle.derive_core.specs.YukawaBlocks.{name_cmp}
+use Rattle.derive_core.specs.BlockBetas.{name_cmp}
 use Rattle.derive_core.specs.declared.outcomes.Told.{Told}
 use Rattle.derive_core.proofs.NameOrder.{greater_less, name_same, name_itself, name_equal}
 

@@ -84,10 +84,14 @@ IsCheck bytes (Err bad) = IsRefusal bytes bad
 
 -- ---- where a fraction is refused
 
--- the pair is refused, which happens only where the model has a term or isn't plain
+-- the model may have numbers that are too large: it has a term or a scalar field, or isn't plain
+abbrev pub MayBeLarge : Model → Type 0
+MayBeLarge model = (model.terms ≢ []) ⊎ ((model.scalars ≢ []) ⊎ (¬ IsPlain model))
+
+-- the pair is refused, which happens only in such a model
 pub record IsTooLarge (pair : Overflow) (model : Model) : Type 0 where
   pub refused : IsRefusedPair pair.a pair.b
-  pub large : (model.terms ≢ []) ⊎ (¬ IsPlain model)
+  pub large : MayBeLarge model
 
 -- the bytes stand for a model, and the pair is refused
 abbrev pub Overflows : List ℕ → Overflow → Type 0

@@ -1,6 +1,6 @@
 pub mod Targets
 pub mod Blocks
-pub mod YukawaBlocks
+pub mod BlockBetas
 pub mod Surveys
 pub mod SurveySteps
 pub mod Components

@@ -1,23 +1,20 @@
 -- The lines of directions as they are found, which are those of the directions that are meant, and the lines of blocks by
 -- their outcomes.
-use Rattle.std.specs.Prelude.{◌==◌, Bool, not, ◌&&◌, if◌then◌else◌, List, [], ◌∷◌, ◌++◌, length}
-use Rattle.sparse_tensor.specs.Tensor.{rank_of}
+use Rattle.std.specs.Prelude.{Bool, not, if◌then◌else◌, List, [], ◌∷◌, ◌++◌, length}
 use Rattle.span_solver.specs.BlockDirections.{block_directions}
 use Rattle.term_expand.specs.declared.token.Token.{Token}
 use Rattle.term_expand.specs.declared.directions.Direction.{Direction as Found}
 use Rattle.model_core.specs.declared.model.Model.{Model}
-use Rattle.model_core.specs.declared.term.TermKind.TheVariants.{Fermion}
-use Rattle.model_core.specs.Invariance.{component_legs}
-use Rattle.derive_core.specs.Lines.{outcome_in, coordinate_line, block_legs}
+use Rattle.derive_core.specs.Lines.{outcome_in, coordinate_line, block_legs, key_legs}
 use Rattle.derive_core.specs.declared.betas.Line.{Line}
 use Rattle.derive_core.specs.declared.betas.Line.TheVariants.{NotSpanned, Generated}
 use Rattle.derive_core.specs.declared.outcomes.Outcome.{Outcome}
 use Rattle.derive_core.specs.declared.outcomes.Outcome.TheVariants.{Spanned, Unspanned}
 use Rattle.derive_core.specs.declared.outcomes.Told.{Told}
 
--- a plain direction of a Yukawa coupling, whose keys have a side and three places
+-- a plain direction
 abbrev pub found_has_line : Found → Bool
-found_has_line found = (rank_of found.tensor == 4) && not found.symbol.conj
+found_has_line found = not found.symbol.conj
 
 -- the line of a direction behind earlier ones
 abbrev pub found_line : List Told → List Found → Found → List Line
@@ -33,10 +30,10 @@ found_lines_after told earlier (found ∷ others) = found_line told earlier foun
 
 -- the line of an open block, where it has no coordinates
 abbrev pub open_of : Model → List Token → Outcome → List Line
-open_of model name (Unspanned key value) = NotSpanned (block_legs model name) (component_legs model Fermion key) ∷ []
+open_of model name (Unspanned key value) = NotSpanned (block_legs model name) (key_legs model key) ∷ []
 open_of model name (Spanned coordinates) = []
 
 -- that of a generated block
 abbrev pub generated_of : Model → List Token → Outcome → List Line
-generated_of model name (Unspanned key value) = Generated (block_legs model name) (component_legs model Fermion key) value ∷ []
+generated_of model name (Unspanned key value) = Generated (block_legs model name) (key_legs model key) value ∷ []
 generated_of model name (Spanned coordinates) = []

@@ -1,6 +1,6 @@
 -- The lines of a derivation: gauge couplings, then the other couplings in the order of their symbols, then the open and the generated
--- blocks in the order of their names.
-use Rattle.std.specs.Prelude.{◌==◌, ℕ, Bool, not, ◌&&◌, if◌then◌else◌, List, [], ◌∷◌, ◌++◌, map, length, slice_get, Option, Some, None}
+-- blocks in the order of their names, those with fermions first.
+use Rattle.std.specs.Prelude.{◌==◌, ℕ, Bool, not, if◌then◌else◌, List, [], ◌∷◌, ◌++◌, map, length, slice_get, Option, Some, None}
 use Rattle.std.specs.List.{enumerate_from, flat_map, filter, list_any}
 use Rattle.beta_poly.specs.Monomial.{power}
 use Rattle.beta_poly.specs.Polynomial.{Polynomial, term as poly_term}
@@ -9,8 +9,8 @@ use Rattle.model_core.specs.declared.group.Group.{Group}
 use Rattle.model_core.specs.declared.leg.Leg.{Leg}
 use Rattle.model_core.specs.declared.leg.Leg.TheVariants.{Fermion as FermionLeg, Scalar as ScalarLeg, Dummy as DummyLeg}
 use Rattle.model_core.specs.declared.model.Model.{Model}
-use Rattle.model_core.specs.declared.term.TermKind.TheVariants.{Fermion}
-use Rattle.model_core.specs.Content.{is_fermionic}
+use Rattle.model_core.specs.declared.term.TermKind.{TermKind}
+use Rattle.model_core.specs.declared.term.TermKind.TheVariants.{Fermion, Scalar}
 use Rattle.model_core.specs.Directions.{Direction, directions}
 use Rattle.model_core.specs.GaugeBeta.{gauge_one_loop}
 use Rattle.model_core.specs.GaugeTwoLoop.{gauge_symbol, gauge_two_loop}
@@ -47,7 +47,7 @@ second_lines loops model = if loops == 2 then map (second_line model) (enumerate
 abbrev pub gauge_lines : ℕ → Model → List Line
 gauge_lines loops model = map (gauge_line model) (enumerate_from 0 model.groups) ++ second_lines loops model
 
--- ---- Yukawa couplings
+-- ---- the other couplings
 
 -- the outcome of a block
 abbrev pub outcome_in : List Token → List Told → Option Outcome
@@ -64,9 +64,9 @@ abbrev pub coordinate_line : ℕ → ℕ → Option Outcome → List Line
 coordinate_line id place (Some (Spanned coordinates)) = line_of id (slice_get coordinates place)
 coordinate_line id place _ = []
 
--- a plain direction of a Yukawa coupling has a line
+-- a plain direction has a line
 abbrev pub has_line : Direction → Bool
-has_line direction = is_fermionic direction.kind && not direction.symbol.conj
+has_line direction = not direction.symbol.conj
 
 -- the line of a direction behind earlier ones
 abbrev pub direction_line : List Told → List Direction → Direction → List Line
@@ -101,13 +101,21 @@ token_leg model token =
 abbrev pub block_legs : Model → List Token → List Leg
 block_legs model name = map (token_leg model) name
 
+-- the legs at a key, which has a side before the places of two fermions and a scalar, or of four scalars
+abbrev pub key_kind : List ℕ → TermKind
+key_kind (side ∷ j ∷ k ∷ a ∷ []) = Fermion
+key_kind _ = Scalar
+
+abbrev pub key_legs : Model → List ℕ → List Leg
+key_legs model key = component_legs model (key_kind key) key
+
 -- no direction is in the block
 abbrev pub is_bare : Model → List Token → Bool
 is_bare model name = not (list_any (is_of name) (directions model))
 
 abbrev pub open_with : Model → List Token → Outcome → List Line
 open_with model name (Unspanned key value) =
-    if is_bare model name then [] else NotSpanned (block_legs model name) (component_legs model Fermion key) ∷ []
+    if is_bare model name then [] else NotSpanned (block_legs model name) (key_legs model key) ∷ []
 open_with model name _ = []
 
 abbrev pub open_line : Model → Told → List Line
@@ -115,7 +123,7 @@ open_line model told = open_with model told.block told.outcome
 
 abbrev pub generated_with : Model → List Token → Outcome → List Line
 generated_with model name (Unspanned key value) =
-    if is_bare model name then Generated (block_legs model name) (component_legs model Fermion key) value ∷ [] else []
+    if is_bare model name then Generated (block_legs model name) (key_legs model key) value ∷ [] else []
 generated_with model name _ = []
 
 abbrev pub generated_line : Model → Told → List Line
@@ -123,7 +131,7 @@ generated_line model told = generated_with model told.block told.outcome
 
 -- ---- all
 
--- what is told of the blocks, as far as it is built: the lines of scalar couplings and of their blocks aren't yet
+-- what is told of the blocks
 abbrev pub block_lines : Model → List Told → List Line
 block_lines model told =
     coupling_lines model told ++ flat_map (open_line model) told ++ flat_map (generated_line model) told

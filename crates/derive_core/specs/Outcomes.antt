@@ -4,12 +4,11 @@ use Rattle.std.specs.List.{All}
 use Rattle.std.proofs.Common.{Less}
 use Rattle.beta_poly.specs.Polynomial.{Polynomial, zero_poly}
 use Rattle.model_core.specs.declared.model.Model.{Model}
-use Rattle.model_core.specs.Content.{is_fermionic}
 use Rattle.model_core.specs.Directions.{Direction, directions}
 use Rattle.term_expand.specs.declared.token.Token.{Token}
 use Rattle.span_solver.specs.Coordinate.{AreCoordinates, IsOpenAt}
 use Rattle.derive_core.specs.Blocks.{is_of, numbers_of}
-use Rattle.derive_core.specs.YukawaBlocks.{name_cmp, block_beta}
+use Rattle.derive_core.specs.BlockBetas.{name_cmp, block_beta}
 use Rattle.derive_core.specs.declared.outcomes.Outcome.{Outcome}
 use Rattle.derive_core.specs.declared.outcomes.Outcome.TheVariants.{Spanned, Unspanned}
 use Rattle.derive_core.specs.declared.outcomes.Told.{Told}
@@ -23,12 +22,11 @@ IsOutcome model name (Unspanned key value) = IsOpenAt (numbers_of name (directio
 
 -- ---- the blocks of which something is told
 
--- a direction of a Yukawa coupling in the block
+-- a direction in the block
 pub record HasCoupling (model : Model) (name : List Token) : Type 0 where
   pub place : ℕ
   pub direction : Direction
   pub stands : slice_get (directions model) place ≡ Some direction
-  pub fermionic : is_fermionic direction.kind ≡ true
   pub in_block : is_of name direction ≡ true
 
 -- a component at which the block's beta tensor isn't 0
@@ -55,7 +53,7 @@ abbrev pub IsAmong : List Token → List Told → Type 0
 IsAmong name [] = ⊥
 IsAmong name (first ∷ others) = (name ≡ first.block) ⊎ IsAmong name others
 
--- what is told of a model: in the order of names each block with a Yukawa coupling or a beta tensor other than 0, with its outcome
+-- what is told of a model: in the order of names each block with a coupling or a beta tensor other than 0, with its outcome
 pub record AreTold (model : Model) (told : List Told) : Type 0 where
   pub order : Ascend told
   pub each : All (IsTold model) told

@@ -1,5 +1,5 @@
 -- The blocks of a model's directions, and the first direction that is dependent.
-use Rattle.std.specs.Prelude.{◌≡◌, ◌⊎◌, ℕ, List, [], ◌∷◌, length, slice_get, Option, Some, None}
+use Rattle.std.specs.Prelude.{◌≡◌, ◌⊎◌, ℕ, suc, List, [], ◌∷◌, length, slice_get, Option, Some, None}
 use Rattle.std.specs.List.{All}
 use Rattle.model_core.specs.declared.model.Model.{Model}
 use Rattle.model_core.specs.Directions.{Direction, directions}
@@ -9,10 +9,10 @@ use Rattle.derive_core.specs.Blocks.{name_of, numbers_of, NoneIsDependent, IsFir
 use Rattle.derive_core.specs.declared.survey.Solver.{Solver}
 use Rattle.derive_core.specs.declared.survey.Survey.{Survey}
 
--- the block of the directions with a name; keys of a block with three legs have a side besides
+-- the block of the directions with a name, whose keys have a side before the places of the legs
 pub record IsSolver (model : Model) (solver : Solver) : Type 0 where
   pub block : IsBlock (numbers_of solver.name (directions model)) solver.block
-  pub rank : length solver.name ≡ 3 → IsOfRank 4 solver.block
+  pub rank : IsOfRank (suc (length solver.name)) solver.block
 
 -- a block of a name is among some
 abbrev pub HasSolver : List Token → List Solver → Type 0

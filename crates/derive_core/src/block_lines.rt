@@ -2,7 +2,7 @@
 ghost use Rattle.std.specs.Prelude.{◌≡◌, ◌≤◌, ◌++◌, ◌∷◌, [], length, slice_get, Some, OnOk};
 ghost use Rattle.std.specs.List.{All, flat_map, list_any};
 ghost use Rattle.model_core.specs.declared.leg.Leg.TheVariants.{Fermion as FermionLeg, Scalar as ScalarLeg};
-ghost use Rattle.model_core.specs.declared.term.TermKind.TheVariants.{Fermion};
+ghost use Rattle.model_core.specs.declared.term.TermKind.TheVariants.{Fermion, Scalar};
 ghost use Rattle.model_core.specs.Directions.{directions as directions_in};
 ghost use Rattle.model_core.specs.Invariance.{component_legs};
 ghost use Rattle.model_core.specs.Leg.{printed_generation};
@@ -10,8 +10,8 @@ ghost use Rattle.model_core.specs.Valid.{IsValid};
 ghost use Rattle.span_solver.specs.BlockDirections.{is_named};
 ghost use Rattle.term_expand.specs.Expansion.{AreDirections};
 ghost use Rattle.derive_core.specs.LineSteps.{open_of, generated_of};
-ghost use Rattle.derive_core.specs.Lines.{named_leg, token_leg, block_legs, open_line, generated_line};
-ghost use Rattle.derive_core.specs.Works.{are_places, IsTriple};
+ghost use Rattle.derive_core.specs.Lines.{named_leg, token_leg, block_legs, key_legs, open_line, generated_line};
+ghost use Rattle.derive_core.specs.Works.{are_places, are_scalar_places, HasLegs};
 
 use crate::betas::{Line, LineList, TokenNames};
 use crate::block_names::same_name;
@@ -118,8 +118,17 @@ fn are_places(model: &Model, j: u32, k: u32, a: u32) -> bool
     j < fermions && k < fermions && a < scalar_count(model)
 }
 
-/// The component at a side and places; none where no leg has one of these.
-fn component_from(model: &Model, side: u32, j: u32, k: u32, a: u32) -> Component
+/// Whether the legs of scalar couplings have these places.
+fn are_scalar_places(model: &Model, a: u32, b: u32, c: u32, d: u32) -> bool
+    requires { IsValid model.now }
+    ensures { result ≡ are_scalar_places model.now a b c d }
+{
+    let scalars = scalar_count(model);
+    a < scalars && b < scalars && c < scalars && d < scalars
+}
+
+/// The component of a Yukawa coupling at a side and places; none where no leg has one of these.
+fn fermion_component(model: &Model, side: u32, j: u32, k: u32, a: u32) -> Component
     requires { IsValid model.now }
     ensures { result ≡ component_legs model.now Fermion (side ∷ j ∷ k ∷ a ∷ []) }
 {
@@ -129,13 +138,25 @@ fn component_from(model: &Model, side: u32, j: u32, k: u32, a: u32) -> Component
     Component::new()
 }
 
+/// The component of a scalar coupling at a side and places; none where no leg has one of these.
+fn scalar_component(model: &Model, side: u32, a: u32, b: u32, c: u32, d: u32) -> Component
+    requires { IsValid model.now }
+    ensures { result ≡ component_legs model.now Scalar (side ∷ a ∷ b ∷ c ∷ d ∷ []) }
+{
+    if are_scalar_places(model, a, b, c, d) {
+        return component_at(model, TermKind::Scalar, side, &[a, b, c, d]);
+    }
+    Component::new()
+}
+
 /// The component at a key, which has the side first; none where the key has a place that no leg has.
 fn component_of(model: &Model, key: &[u32]) -> Component
     requires { IsValid model.now }
-    ensures { result ≡ component_legs model.now Fermion key.now }
+    ensures { result ≡ key_legs model.now key.now }
 {
     match key {
-        [side, j, k, a] => component_from(model, *side, *j, *k, *a),
+        [side, j, k, a] => fermion_component(model, *side, *j, *k, *a),
+        [side, a, b, c, d] => scalar_component(model, *side, *a, *b, *c, *d),
         _ => Component::new(),
     }
 }
@@ -143,7 +164,7 @@ fn component_of(model: &Model, key: &[u32]) -> Component
 /// Adds the line of an open block, where it has no coordinates.
 fn push_unspanned(lines: &mut LineList, model: &Model, told: &Told) -> Result<(), AllocError>
     requires valid { IsValid model.now }
-    requires triple { IsTriple told.now }
+    requires legs { HasLegs told.now }
     ensures { OnOk result (lines.new ≡ lines.old ++ open_of model.now told.now.block told.now.outcome) }
 {
     match &told.outcome {
@@ -164,7 +185,7 @@ fn push_open(
 ) -> Result<(), AllocError>
     requires valid { IsValid model.now }
     requires directions { AreDirections (directions_in model.now) directions.now }
-    requires triple { IsTriple told.now }
+    requires legs { HasLegs told.now }
     ensures { OnOk result (lines.new ≡ lines.old ++ open_line model.now told.now) }
 {
     if has_block(directions, told.block.as_slice()) {
@@ -181,7 +202,7 @@ fn push_value(
     told: &Told,
 ) -> Result<(), AllocError>
     requires valid { IsValid model.now }
-    requires triple { IsTriple told.now }
+    requires legs { HasLegs told.now }
     ensures { OnOk result (lines.new ≡ lines.old ++ generated_of model.now told.now.block told.now.outcome) }
 {
     match &told.outcome {
@@ -204,7 +225,7 @@ fn push_generated(
 ) -> Result<(), AllocError>
     requires valid { IsValid model.now }
     requires directions { AreDirections (directions_in model.now) directions.now }
-    requires triple { IsTriple told.now }
+    requires legs { HasLegs told.now }
     ensures { OnOk result (lines.new ≡ lines.old ++ generated_line model.now told.now) }
 {
     if has_block(directions, told.block.as_slice()) {
@@ -222,7 +243,7 @@ pub fn push_open_blocks(
 ) -> Result<(), AllocError>
     requires valid { IsValid model.now }
     requires directions { AreDirections (directions_in model.now) directions.now }
-    requires triples { All IsTriple told.now }
+    requires legs { All HasLegs told.now }
     ensures { OnOk result (lines.new ≡ lines.old ++ flat_map (open_line model.now) told.now) }
 {
     for block in told {
@@ -241,7 +262,7 @@ pub fn push_generated_blocks(
 ) -> Result<(), AllocError>
     requires valid { IsValid model.now }
     requires directions { AreDirections (directions_in model.now) directions.now }
-    requires triples { All IsTriple told.now }
+    requires legs { All HasLegs told.now }
     ensures { OnOk result (lines.new ≡ lines.old ++ flat_map (generated_line model.now) told.now) }
 {
     for block in told {

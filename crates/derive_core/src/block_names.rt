@@ -1,12 +1,13 @@
 //! The names of blocks, and the block to which a component belongs.
-ghost use Rattle.std.specs.Prelude.{◌≡◌, ◌∷◌, [], Some, length, slice_get, IfOk};
+ghost use Rattle.std.specs.Prelude.{◌≡◌, ◌∷◌, Some, length, slice_get, IfOk};
+ghost use Rattle.std.specs.List.{prefix_len};
 ghost use Rattle.std.specs.Ordering.{};
 ghost use Rattle.model_core.specs.Content.{is_before, is_real};
 ghost use Rattle.model_core.specs.Valid.{IsValid};
 ghost use Rattle.term_expand.specs.Tokens.{dummy_token};
 ghost use Rattle.span_solver.specs.BlockDirections.{same_token, same_name};
+ghost use Rattle.derive_core.specs.BlockBetas.{order_of_token, name_cmp, inserted, component_token, partner_token, fermion_token, scalar_token, scalar_content, scalar_side, name_at};
 ghost use Rattle.derive_core.specs.Components.{IsComponents};
-ghost use Rattle.derive_core.specs.YukawaBlocks.{order_of_token, name_cmp, component_token, partner_token, fermion_token, scalar_token, in_order, name_at};
 
 use model_core::{FieldComponent, FieldComponentList, Model, fermion_list, scalar_list};
 use std::alloc::{AllocError, Global};
@@ -185,29 +186,79 @@ fn is_before(order: Ordering) -> bool
     matches!(order, Ordering::Less)
 }
 
-/// Two tokens.
-fn pair_of(alloc: Global, first: Token, second: Token) -> Result<BlockName, AllocError>
-    ensures { IfOk result (λ found. found ≡ first ∷ second ∷ []) }
+/// How many of the tokens at the front come before one.
+fn place_among(token: &Token, sorted: &[Token]) -> usize
+    ensures { result ≡ prefix_len (λ first. is_before (order_of_token first token.now)) sorted.now }
 {
-    let mut found = BlockName::new(alloc);
-    found.push(first)?;
-    found.push(second)?;
-    Ok(found)
+    sorted
+        .iter()
+        .take_while(|first| is_before(token_cmp(first, token)))
+        .count()
 }
 
-/// Two tokens in their order.
-fn in_order(alloc: Global, a: Token, b: Token) -> Result<BlockName, AllocError>
-    ensures { IfOk result (λ found. found ≡ in_order a b) }
+/// Sorted tokens with one more, behind those that come before it.
+fn inserted(token: Token, sorted: BlockName) -> Result<BlockName, AllocError>
+    ensures { IfOk result (λ found. found ≡ inserted token sorted) }
 {
-    if is_before(token_cmp(&b, &a)) {
-        return pair_of(alloc, b, a);
+    let place = place_among(&token, sorted.as_slice());
+    let mut all = sorted.into_vec();
+    all.insert(place, token)?;
+    Ok(BlockName::from_vec(all))
+}
+
+/// The same name.
+pub fn copied_name(alloc: Global, name: &[Token]) -> Result<BlockName, AllocError>
+    ensures { IfOk result (λ copy. copy ≡ name.now) }
+{
+    let mut copy = BlockName::new(alloc);
+    for token in name {
+        copy.push(*token)?;
     }
-    pair_of(alloc, a, b)
+    Ok(copy)
 }
 
-/// The name of the block to which a component belongs: the place of the component is that of its two fermions and of its
-/// scalar.
-pub fn name_at(
+/// The content of scalars on a side: their own tokens in order, and on side 1 those of their partners.
+fn scalar_content(
+    alloc: Global,
+    model: &Model,
+    components: &Components,
+    side: u32,
+    places: &[u32],
+) -> Result<BlockName, AllocError>
+    requires components { IsComponents model.now components.now }
+    ensures { IfOk result (λ found. found ≡ scalar_content model.now side places.now) }
+{
+    match places {
+        [] => Ok(BlockName::new(alloc)),
+        [place, others @ ..] => {
+            let others = scalar_content(alloc, model, components, side, others)?;
+            let token = scalar_token(model, components.scalars.as_slice(), side, *place);
+            inserted(token, others)
+        }
+    }
+}
+
+/// The side of four scalars: 0 where their own content is that of the block, and 1 where the conjugate one is, which then comes
+/// first.
+pub fn scalar_side(
+    alloc: Global,
+    model: &Model,
+    components: &Components,
+    places: &[u32],
+) -> Result<u32, AllocError>
+    requires components { IsComponents model.now components.now }
+    ensures { IfOk result (λ side. side ≡ scalar_side model.now places.now) }
+{
+    let own = scalar_content(alloc, model, components, 0, places)?;
+    let conjugate = scalar_content(alloc, model, components, 1, places)?;
+    if is_before(name_cmp(conjugate.as_slice(), own.as_slice())) {
+        return Ok(1);
+    }
+    Ok(0)
+}
+
+/// The name of the block of two fermions and a scalar, at the places of a key.
+fn yukawa_name(
     alloc: Global,
     model: &Model,
     components: &Components,
@@ -216,13 +267,50 @@ pub fn name_at(
 ) -> Result<BlockName, AllocError>
     requires components { IsComponents model.now components.now }
     requires places { length places.now ≡ 3 }
-    ensures name { IfOk result (λ found. found ≡ name_at model.now (side ∷ places.now)) }
+    ensures { IfOk result (λ found. found ≡ name_at model.now (side ∷ places.now)) }
 {
     let fermions = components.fermions.as_slice();
     let first = fermion_token(fermions, places[0]);
     let second = fermion_token(fermions, places[1]);
     let scalar = scalar_token(model, components.scalars.as_slice(), side, places[2]);
-    let mut name = in_order(alloc, first, second)?;
-    name.push(scalar)?;
-    Ok(name)
+    let name = inserted(scalar, BlockName::new(alloc))?;
+    let name = inserted(second, name)?;
+    inserted(first, name)
+}
+
+/// The name of the block of four scalars, at the places of a key: of their own content and the conjugate one the one that comes
+/// first.
+fn scalar_name(
+    alloc: Global,
+    model: &Model,
+    components: &Components,
+    places: &[u32],
+) -> Result<BlockName, AllocError>
+    requires components { IsComponents model.now components.now }
+    ensures { IfOk result (λ found. found ≡ scalar_content model.now (scalar_side model.now places.now) places.now) }
+{
+    let own = scalar_content(alloc, model, components, 0, places)?;
+    let conjugate = scalar_content(alloc, model, components, 1, places)?;
+    if is_before(name_cmp(conjugate.as_slice(), own.as_slice())) {
+        return Ok(conjugate);
+    }
+    Ok(own)
+}
+
+/// The name of the block to which a component belongs: its places are those of two fermions and a scalar, or of four scalars.
+pub fn name_at(
+    alloc: Global,
+    model: &Model,
+    components: &Components,
+    side: u32,
+    places: &[u32],
+) -> Result<BlockName, AllocError>
+    requires components { IsComponents model.now components.now }
+    ensures name { IfOk result (λ found. found ≡ name_at model.now (side ∷ places.now)) }
+{
+    match places.len() {
+        3 => yukawa_name(alloc, model, components, side, places),
+        4 => scalar_name(alloc, model, components, places),
+        _ => Ok(BlockName::new(alloc)),
+    }
 }

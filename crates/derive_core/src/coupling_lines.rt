@@ -1,4 +1,4 @@
-//! The lines of Yukawa couplings.
+//! The lines of Yukawa and scalar couplings.
 ghost use Rattle.std.specs.Prelude.{◌≡◌, ◌++◌, length, slice_get, Some, None, MatchOption, OnOk};
 ghost use Rattle.model_core.specs.declared.model.Model.{Model as ModelValue};
 ghost use Rattle.model_core.specs.Directions.{directions as directions_in};
@@ -40,11 +40,11 @@ fn count_of(directions: &[Direction], name: &[Token]) -> usize
         .count()
 }
 
-/// Whether a direction is a plain one of a Yukawa coupling.
+/// Whether a direction has a line: a plain one has.
 fn has_line(direction: &Direction) -> bool
     ensures { result ≡ found_has_line direction.now }
 {
-    direction.tensor.rank() == 4 && !direction.symbol.conj
+    !direction.symbol.conj
 }
 
 /// Adds the line of a symbol with its beta function.

@@ -7,7 +7,7 @@ ghost use Rattle.term_expand.specs.Expansion.{AreDirections, IsExpansion};
 ghost use Rattle.derive_core.specs.Acceptance.{HaveSolvers};
 ghost use Rattle.derive_core.specs.Derivation.{Finds};
 ghost use Rattle.derive_core.specs.Lines.{block_lines};
-ghost use Rattle.derive_core.specs.Works.{AreLines, IsTriple};
+ghost use Rattle.derive_core.specs.Works.{AreLines, HasLegs};
 
 use crate::accept::Accepted;
 use crate::betas::LineList;
@@ -22,7 +22,7 @@ use std::alloc::{AllocError, Global};
 use std::thread::Threads;
 use term_expand::Direction;
 
-/// Adds the lines of Yukawa couplings and of their blocks.
+/// Adds the lines of Yukawa and scalar couplings, and of their blocks.
 fn push_told(
     alloc: Global,
     lines: &mut LineList,
@@ -32,7 +32,7 @@ fn push_told(
 ) -> Result<(), AllocError>
     requires valid { IsValid model.now }
     requires directions { AreDirections (directions_in model.now) directions.now }
-    requires triples { All IsTriple told.now }
+    requires legs { All HasLegs told.now }
     ensures { OnOk result (lines.new ≡ lines.old ++ block_lines model.now told.now) }
 {
     push_couplings(alloc, lines, told, directions)?;

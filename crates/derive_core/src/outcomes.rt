@@ -1,8 +1,8 @@
-//! What is told of the blocks of Yukawa couplings: coordinates, or the first component up to which there are none.
-ghost use Rattle.std.specs.Prelude.{◌≡◌, ◌≤◌, ◌<◌, ◌+◌, ◌∷◌, [], List, length, IfOk, IfErr, MatchOption};
+//! What is told of the blocks: coordinates, or the first component up to which there are none.
+ghost use Rattle.std.specs.Prelude.{◌≡◌, ◌≤◌, ◌<◌, ◌+◌, ◌∷◌, [], true, false, List, length, IfOk, IfErr, MatchOption};
 ghost use Rattle.std.specs.List.{prefix_len};
 ghost use Rattle.sparse_tensor.specs.Refusals.{IsTensorRefusal};
-ghost use Rattle.sparse_tensor.specs.Tensor.{HasValues, rank_of, entries_of, value};
+ghost use Rattle.sparse_tensor.specs.Tensor.{rank_of, entries_of, value};
 ghost use Rattle.model_core.specs.Content.{is_before};
 ghost use Rattle.model_core.specs.Directions.{directions};
 ghost use Rattle.model_core.specs.Valid.{IsValid};
@@ -10,21 +10,23 @@ ghost use Rattle.span_solver.specs.Block.{IsBlock, IsOfRank};
 ghost use Rattle.span_solver.specs.Dependence.{Numbers};
 ghost use Rattle.term_expand.specs.Expansion.{AreDirections, IsExpansion};
 ghost use Rattle.derive_core.specs.Acceptance.{HaveSolvers};
-ghost use Rattle.derive_core.specs.Derivation.{Finds};
+ghost use Rattle.derive_core.specs.BlockBetas.{IsLegCount, name_cmp, name_at};
+ghost use Rattle.derive_core.specs.Components.{IsComponents};
+ghost use Rattle.derive_core.specs.Derivation.{MayBeLarge, Finds};
 ghost use Rattle.derive_core.specs.Outcomes.{IsOutcome};
-ghost use Rattle.derive_core.specs.SideBetas.{AreSideBetas};
 ghost use Rattle.derive_core.specs.Surveys.{HasSolver};
-ghost use Rattle.derive_core.specs.Works.{is_at, IsSolverAmong, IsEntryKey, IsWork, IsBetaTensor, AreSides, IsOutcomeOf, IsWholeTold, AreSome, TellsOf, MayBeTold, AreDirectionsTold, AreEntriesTold};
-ghost use Rattle.derive_core.specs.YukawaBlocks.{name_cmp, name_at, side_beta};
+ghost use Rattle.derive_core.specs.Works.{is_at, IsSolverAmong, IsEntryKey, IsWork, IsYukawaBeta, IsScalarBeta, AreSides, IsOutcomeOf, IsWholeTold, AreSome, TellsOf, MayBeTold, AreDirectionsTold, AreSideValues, AreEntriesTold, AreSidesTold};
 
 use crate::accept::Accepted;
 use crate::block_betas::{SideBetas, block_beta, side_betas};
-use crate::block_names::{Components, components_of, name_at, name_cmp, same_name};
+use crate::block_names::{Components, components_of, copied_name, name_at, name_cmp, same_name};
 use crate::fault::DeriveFault;
 use crate::survey::Solver;
 use beta_poly::Poly;
 use contraction_workers::Gate;
 use frac128::{ItemList, NumberList};
+use model_core::Model;
+use quartic_one_loop::quartic_betas;
 use span_solver::{Block, PolyList, Solved};
 use sparse_tensor::{Sparse, TensorFault};
 use std::alloc::{AllocError, Global};
@@ -51,7 +53,7 @@ pub struct Told {
 /// Blocks in the order of their names.
 pub type ToldList = ItemList<Told>;
 
-/// The components of a model, and its beta tensor on both sides of blocks.
+/// The components of a model, and its beta tensors on both sides of blocks.
 #[derive(Drop)]
 pub struct Work {
     pub components: Components,
@@ -80,8 +82,7 @@ fn outcome_of<R: Threads + Sync, G: Gate>(
     workers: u32,
     gate: &G,
 ) -> Result<Outcome, TensorFault>
-    requires block { IsOfRank 4 block.now }
-    requires rank { rank_of tensor.now ≡ 4 }
+    requires block { IsOfRank (rank_of tensor.now) block.now }
     requires low { 1 ≤ workers }
     requires high { workers ≤ 64 }
     ensures value { (directions : List Numbers) → IsBlock directions block.now → IfOk result (IsOutcomeOf directions tensor.now) }
@@ -104,7 +105,6 @@ fn bare_outcome<R: Threads + Sync, G: Gate>(
     workers: u32,
     gate: &G,
 ) -> Result<Outcome, TensorFault>
-    requires rank { rank_of tensor.now ≡ 4 }
     requires low { 1 ≤ workers }
     requires high { workers ≤ 64 }
     ensures value { IfOk result (IsOutcomeOf [] tensor.now) }
@@ -138,7 +138,7 @@ fn outcome_for<R: Threads + Sync, G: Gate>(
 ) -> Result<Outcome, TensorFault>
     requires solvers { HaveSolvers accepted.now.model accepted.now.solvers }
     requires work { IsWork accepted.now.model work.now }
-    requires three { length name.now ≡ 3 }
+    requires legs { IsLegCount (length name.now) }
     requires low { 1 ≤ workers }
     requires high { workers ≤ 64 }
     ensures value { IfOk result (IsOutcome accepted.now.model name.now) }
@@ -168,17 +168,6 @@ fn is_at(told: &[Told], place: usize, name: &[Token]) -> bool
         Some(found) => same_name(found.block.as_slice(), name),
         None => false,
     }
-}
-
-/// A copy of a name.
-fn name_copy(alloc: Global, name: &[Token]) -> Result<BlockName, AllocError>
-    ensures { IfOk result (λ found. found ≡ name.now) }
-{
-    let mut found = BlockName::new(alloc);
-    for token in name {
-        found.push(*token)?;
-    }
-    Ok(found)
 }
 
 /// The blocks with what one more has, unless it is among them.
@@ -217,7 +206,7 @@ fn with_block<R: Threads + Sync, G: Gate>(
     Ok(ToldList::from_vec(all))
 }
 
-/// The blocks with that of the direction at a place, where it is one of a Yukawa coupling.
+/// The blocks with that of the direction at a place.
 fn with_direction<R: Threads + Sync, G: Gate>(
     rt: &R,
     alloc: Global,
@@ -240,14 +229,11 @@ fn with_direction<R: Threads + Sync, G: Gate>(
     ensures refused { IfErr result IsTensorRefusal }
 {
     let direction = accepted.tensors.directions.item(place);
-    if direction.tensor.rank() != 4 {
-        return Ok(told);
-    }
-    let name = name_copy(alloc, direction.block.as_slice())?;
+    let name = copied_name(alloc, direction.block.as_slice())?;
     with_block(rt, alloc, accepted, work, told, name, workers, gate)
 }
 
-/// The blocks of the directions of Yukawa couplings.
+/// The blocks of the directions.
 fn of_directions<R: Threads + Sync, G: Gate>(
     rt: &R,
     alloc: Global,
@@ -272,7 +258,7 @@ fn of_directions<R: Threads + Sync, G: Gate>(
     Ok(told)
 }
 
-/// The blocks with that of an entry of the beta tensor on a side.
+/// The blocks with that of an entry of a beta tensor on a side.
 fn with_entry<R: Threads + Sync, G: Gate>(
     rt: &R,
     alloc: Global,
@@ -297,7 +283,7 @@ fn with_entry<R: Threads + Sync, G: Gate>(
     with_block(rt, alloc, accepted, work, told, name, workers, gate)
 }
 
-/// The blocks with those of the entries of the beta tensor on a side.
+/// The blocks with those of the entries of a beta tensor on a side.
 fn with_entries<R: Threads + Sync, G: Gate>(
     rt: &R,
     alloc: Global,
@@ -311,7 +297,7 @@ fn with_entries<R: Threads + Sync, G: Gate>(
 ) -> Result<ToldList, TensorFault>
     requires solvers { HaveSolvers accepted.now.model accepted.now.solvers }
     requires work { IsWork accepted.now.model work.now }
-    requires side { HasValues 3 (side_beta accepted.now.model side) entries.now }
+    requires side { AreSideValues accepted.now.model side entries.now }
     requires told { AreSome accepted.now.model before }
     requires low { 1 ≤ workers }
     requires high { workers ≤ 64 }
@@ -326,7 +312,35 @@ fn with_entries<R: Threads + Sync, G: Gate>(
     Ok(told)
 }
 
-/// All blocks with a Yukawa coupling or a beta tensor other than 0.
+/// The blocks with those of the entries of two beta tensors, the first on side 0 and the second on side 1.
+fn with_sides<R: Threads + Sync, G: Gate>(
+    rt: &R,
+    alloc: Global,
+    accepted: &Accepted,
+    work: &Work,
+    plain: &Sparse,
+    conjugate: &Sparse,
+    before: ToldList,
+    workers: u32,
+    gate: &G,
+) -> Result<ToldList, TensorFault>
+    requires solvers { HaveSolvers accepted.now.model accepted.now.solvers }
+    requires work { IsWork accepted.now.model work.now }
+    requires plain { AreSideValues accepted.now.model 0 plain.now }
+    requires conjugate { AreSideValues accepted.now.model 1 conjugate.now }
+    requires told { AreSome accepted.now.model before }
+    requires low { 1 ≤ workers }
+    requires high { workers ≤ 64 }
+    ensures value { IfOk result (AreSidesTold accepted.now.model plain.now conjugate.now before) }
+    ensures refused { IfErr result IsTensorRefusal }
+{
+    let first = with_entries(rt, alloc, accepted, work, 0, plain, before, workers, gate)?;
+    with_entries(
+        rt, alloc, accepted, work, 1, conjugate, first, workers, gate,
+    )
+}
+
+/// All blocks with a coupling or a beta tensor other than 0.
 fn told_with<R: Threads + Sync, G: Gate>(
     rt: &R,
     alloc: Global,
@@ -345,39 +359,20 @@ fn told_with<R: Threads + Sync, G: Gate>(
     ensures refused { IfErr result IsTensorRefusal }
 {
     let first = of_directions(rt, alloc, accepted, work, workers, gate)?;
-    let plain = &work.sides.plain;
-    let second = with_entries(rt, alloc, accepted, work, 0, plain, first, workers, gate)?;
-    let conjugate = &work.sides.conjugate;
-    with_entries(
-        rt, alloc, accepted, work, 1, conjugate, second, workers, gate,
+    let plain = &work.sides.yukawa;
+    let conjugate = &work.sides.conjugate_yukawa;
+    let second = with_sides(
+        rt, alloc, accepted, work, plain, conjugate, first, workers, gate,
+    )?;
+    let plain = &work.sides.scalar;
+    let conjugate = &work.sides.conjugate_scalar;
+    with_sides(
+        rt, alloc, accepted, work, plain, conjugate, second, workers, gate,
     )
 }
 
-/// The same, from the beta tensor on both sides.
-fn told_from<R: Threads + Sync, G: Gate>(
-    rt: &R,
-    alloc: Global,
-    accepted: &Accepted,
-    sides: SideBetas,
-    workers: u32,
-    gate: &G,
-) -> Result<ToldList, TensorFault>
-    requires valid { IsValid accepted.now.model }
-    requires directions { AreDirections (directions accepted.now.model) accepted.now.tensors.directions }
-    requires solvers { HaveSolvers accepted.now.model accepted.now.solvers }
-    requires sides { AreSideBetas accepted.now.model sides }
-    requires low { 1 ≤ workers }
-    requires high { workers ≤ 64 }
-    ensures value { IfOk result (IsWholeTold accepted.now.model) }
-    ensures refused { IfErr result IsTensorRefusal }
-{
-    let components = components_of(alloc, &accepted.model)?;
-    let work = Work { components, sides };
-    told_with(rt, alloc, accepted, &work, workers, gate)
-}
-
 /// The beta tensor of Yukawa couplings.
-fn beta_tensor<R: Threads + Sync, G: Gate>(
+fn yukawa_beta_tensor<R: Threads + Sync, G: Gate>(
     rt: &R,
     alloc: Global,
     accepted: &Accepted,
@@ -388,7 +383,7 @@ fn beta_tensor<R: Threads + Sync, G: Gate>(
     requires tensors { IsExpansion accepted.now.model accepted.now.tensors }
     requires low { 1 ≤ workers }
     requires high { workers ≤ 64 }
-    ensures { Finds IsBetaTensor accepted.now.model result }
+    ensures { Finds IsYukawaBeta accepted.now.model result }
 {
     match yukawa_betas(rt, alloc, &accepted.model, &accepted.tensors, workers, gate) {
         Ok(found) => Ok(found),
@@ -397,17 +392,79 @@ fn beta_tensor<R: Threads + Sync, G: Gate>(
     }
 }
 
-/// The beta tensor on both sides of blocks.
-fn sides_of(alloc: Global, accepted: &Accepted, plain: Sparse) -> Result<SideBetas, DeriveFault>
+/// The beta tensor of scalar couplings.
+fn scalar_beta_tensor<R: Threads + Sync, G: Gate>(
+    rt: &R,
+    alloc: Global,
+    accepted: &Accepted,
+    workers: u32,
+    gate: &G,
+) -> Result<Sparse, DeriveFault>
     requires valid { IsValid accepted.now.model }
-    requires plain { IsBetaTensor plain accepted.now.model }
-    ensures { Finds AreSides accepted.now.model result }
+    requires tensors { IsExpansion accepted.now.model accepted.now.tensors }
+    requires low { 1 ≤ workers }
+    requires high { workers ≤ 64 }
+    ensures { Finds IsScalarBeta accepted.now.model result }
 {
-    match side_betas(alloc, &accepted.model, plain) {
+    match quartic_betas(rt, alloc, &accepted.model, &accepted.tensors, workers, gate) {
+        Ok(found) => Ok(found),
+        Err(TensorFault::Overflow(pair)) => Err(DeriveFault::Overflow(pair)),
+        Err(TensorFault::NoMemory) => Err(DeriveFault::NoMemory),
+    }
+}
+
+/// Beta tensors on both sides of blocks.
+fn on_sides(
+    alloc: Global,
+    model: &Model,
+    components: &Components,
+    yukawa: Sparse,
+    scalar: &Sparse,
+) -> Result<SideBetas, DeriveFault>
+    requires valid { IsValid model.now }
+    requires components { IsComponents model.now components.now }
+    requires yukawa { IsYukawaBeta yukawa model.now }
+    requires scalar { IsScalarBeta scalar.now model.now }
+    ensures { Finds AreSides model.now result }
+{
+    match side_betas(alloc, model, components, yukawa, scalar) {
         Ok(sides) => Ok(sides),
         Err(TensorFault::Overflow(pair)) => Err(DeriveFault::Overflow(pair)),
         Err(TensorFault::NoMemory) => Err(DeriveFault::NoMemory),
     }
+}
+
+/// The beta tensors of an accepted model on both sides of blocks.
+fn sides_of<R: Threads + Sync, G: Gate>(
+    rt: &R,
+    alloc: Global,
+    accepted: &Accepted,
+    components: &Components,
+    workers: u32,
+    gate: &G,
+) -> Result<SideBetas, DeriveFault>
+    requires valid { IsValid accepted.now.model }
+    requires tensors { IsExpansion accepted.now.model accepted.now.tensors }
+    requires components { IsComponents accepted.now.model components.now }
+    requires low { 1 ≤ workers }
+    requires high { workers ≤ 64 }
+    ensures { Finds AreSides accepted.now.model result }
+{
+    let yukawa = yukawa_beta_tensor(rt, alloc, accepted, workers, gate)?;
+    let scalar = scalar_beta_tensor(rt, alloc, accepted, workers, gate)?;
+    on_sides(alloc, &accepted.model, components, yukawa, &scalar)
+}
+
+/// Whether a model may have a block: it has a term or a scalar field.
+fn may_have_blocks(model: &Model) -> bool
+    ensures large { result ≡ true → MayBeLarge model.now }
+    ensures no_terms { result ≡ false → model.now.terms ≡ [] }
+    ensures no_scalars { result ≡ false → model.now.scalars ≡ [] }
+{
+    if !model.terms.is_empty() {
+        return true;
+    }
+    !model.scalars.is_empty()
 }
 
 /// What is told of the blocks of an accepted model, in the order of their names.
@@ -425,12 +482,13 @@ pub fn told_of<R: Threads + Sync, G: Gate>(
     requires high { workers ≤ 64 }
     ensures { Finds (λ told m. IsWholeTold m told) accepted.now.model result }
 {
-    let plain = beta_tensor(rt, alloc, accepted, workers, gate)?;
-    let sides = sides_of(alloc, accepted, plain)?;
-    if accepted.model.terms.is_empty() {
+    let components = components_of(alloc, &accepted.model)?;
+    let sides = sides_of(rt, alloc, accepted, &components, workers, gate)?;
+    if !may_have_blocks(&accepted.model) {
         return Ok(ToldList::new(alloc));
     }
-    match told_from(rt, alloc, accepted, sides, workers, gate) {
+    let work = Work { components, sides };
+    match told_with(rt, alloc, accepted, &work, workers, gate) {
         Ok(told) => Ok(told),
         Err(TensorFault::Overflow(pair)) => Err(DeriveFault::Overflow(pair)),
         Err(TensorFault::NoMemory) => Err(DeriveFault::NoMemory),

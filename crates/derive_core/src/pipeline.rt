@@ -39,12 +39,12 @@ fn betas_of<R: Threads + Sync, G: Gate>(
     })
 }
 
-/// Derives the beta functions of the model file that the bytes are, as far as they are built: those of the gauge
-/// couplings, to one loop or two, and those of the Yukawa couplings with the open and the generated blocks of fermions. It
-/// refuses, in this order, the file's first bad place, the first fault of a term, and the first anomaly.
+/// Derives the beta functions of the model file that the bytes are: those of the gauge couplings, to one loop or two,
+/// and those of the Yukawa and scalar couplings to one loop, with the open and the generated blocks. It refuses, in this
+/// order, the file's first bad place, the first fault of a term, and the first anomaly.
 ///
 /// `loops` is 1 or 2; `workers` is 1 to 64, and no result depends on it. `Overflow` comes only for a model that has a
-/// term, or a charge that isn't a multiple of 1/6 or is above 10 in size.
+/// term, a scalar field, or a charge that isn't a multiple of 1/6 or is above 10 in size.
 pub fn derive<R: Threads + Sync, G: Gate>(
     rt: &R,
     alloc: Global,

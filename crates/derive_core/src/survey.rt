@@ -1,5 +1,5 @@
 //! The blocks of a model's directions, and the first direction that is a combination of earlier ones.
-ghost use Rattle.std.specs.Prelude.{◌≡◌, ◌&&◌, ◌∷◌, ◌++◌, [], IfOk, IfErr, OnOk};
+ghost use Rattle.std.specs.Prelude.{◌≡◌, ◌∷◌, ◌++◌, [], IfOk, IfErr, OnOk};
 ghost use Rattle.std.specs.List.{list_any};
 ghost use Rattle.sparse_tensor.specs.Refusals.{IsRefusalOf};
 ghost use Rattle.model_core.specs.Directions.{directions as directions_of};
@@ -9,13 +9,13 @@ ghost use Rattle.span_solver.specs.BlockDirections.{same_name};
 ghost use Rattle.derive_core.specs.Surveys.{IsSurvey};
 ghost use Rattle.derive_core.specs.SurveySteps.{earliest, HasName, Covers};
 
-use crate::block_names::same_name;
+use crate::block_names::{copied_name, same_name};
 use frac128::ItemList;
 use model_core::Model;
 use span_solver::{Block, SpanFault};
 use sparse_tensor::TensorFault;
 use std::alloc::{AllocError, Global};
-use term_expand::{BlockName, DirectionList, Token};
+use term_expand::{BlockName, DirectionList};
 
 /// A block of directions by its name.
 #[derive(Drop)]
@@ -39,17 +39,6 @@ fn has_solver(solvers: &SolverList, name: &BlockName) -> bool
     ensures { result ≡ list_any (λ solver. same_name solver.name name.now) solvers.now }
 {
     solvers.as_slice().iter().any(|solver| same_name(solver.name.as_slice(), name.as_slice()))
-}
-
-/// The same name.
-fn copied_name(alloc: Global, name: &[Token]) -> Result<BlockName, AllocError>
-    ensures { IfOk result (λ copy. copy ≡ name.now) }
-{
-    let mut copy = BlockName::new(alloc);
-    for token in name {
-        copy.push(*token)?;
-    }
-    Ok(copy)
 }
 
 /// The first of two places, one of which may not be known.

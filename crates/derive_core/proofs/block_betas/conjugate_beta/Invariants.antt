@@ -4,4 +4,4 @@ use Rattle.derive_core.proofs.ConjugateSums.{AreConjugates}
 use Rattle.derive_core.proofs.block_betas.conjugate_beta.Given as goal
 
 abbrev pub invariant-loop-place : goal.invariant-loop-place
-invariant-loop-place l = AreConjugates l.model (take l.place (entries_of l.plain)) l.values
+invariant-loop-place l = AreConjugates l.model (take l.place (entries_of l.yukawa)) l.values

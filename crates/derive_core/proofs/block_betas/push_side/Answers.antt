@@ -2,13 +2,8 @@ use Rattle.std.proofs.Common.{◌++◌, ℕ, List, ap, ◌∙◌}
 use Rattle.beta_poly.specs.Polynomial.{Polynomial}
 use Rattle.sparse_tensor.specs.Tensor.{entries_of}
 use Rattle.derive_core.specs.SideBetas.{where_it_belongs, named_value}
-use Rattle.derive_core.proofs.TensorEntries.{entry_long, joined_step}
+use Rattle.derive_core.proofs.TensorEntries.{joined_step}
 use Rattle.derive_core.proofs.block_betas.push_side.Goals as goal
-
-pub is_of_block-requires-clause-key : goal.is_of_block-requires-clause-key
-is_of_block-requires-clause-key c =
-    let e : List ℕ × Polynomial = (c.item.result.0.now, c.item.result.1.now) in
-    entry_long 3 c.args.tensor.now c.loop-place.place e c.requires.rank c.item.ensures
 
 pub loop-place-preserved : goal.loop-place-preserved
 loop-place-preserved c =

@@ -1,13 +1,13 @@
 use Rattle.std.proofs.Common.{sym, subst, ◌∙◌}
 use Rattle.std.proofs.lemmas.List.Elements.{All-get_or}
 use Rattle.derive_core.specs.Lines.{open_line}
-use Rattle.derive_core.specs.Works.{IsTriple}
+use Rattle.derive_core.specs.Works.{HasLegs}
 use Rattle.derive_core.proofs.FoundLines.{lines_more}
 use Rattle.derive_core.proofs.block_lines.push_open_blocks.Goals as goal
 
-pub push_open-requires-clause-triple : goal.push_open-requires-clause-triple
-push_open-requires-clause-triple c =
-    subst IsTriple (sym c.block-item.is) (All-get_or IsTriple c.args.told.now c.loop-block.block-index c.block-item.result c.loop-block-test.true c.requires.triples)
+pub push_open-requires-clause-legs : goal.push_open-requires-clause-legs
+push_open-requires-clause-legs c =
+    subst HasLegs (sym c.block-item.is) (All-get_or HasLegs c.args.told.now c.loop-block.block-index c.block-item.result c.loop-block-test.true c.requires.legs)
 
 pub loop-block-preserved : goal.loop-block-preserved
 loop-block-preserved c =

@@ -3,7 +3,7 @@ use Rattle.std.proofs.Common.{sym, subst, ap, ◌∙◌, ◌++◌}
 use Rattle.model_core.specs.Directions.{directions}
 use Rattle.term_expand.specs.Expansion.{AreDirections}
 use Rattle.derive_core.specs.Lines.{block_lines}
-use Rattle.derive_core.specs.Works.{IsTriple}
+use Rattle.derive_core.specs.Works.{HasLegs}
 use Rattle.derive_core.proofs.AllLines.{are_lines}
 use Rattle.derive_core.proofs.lines.lines_of.Goals as goal
 
@@ -11,8 +11,8 @@ pub push_told-requires-clause-directions : goal.push_told-requires-clause-direct
 push_told-requires-clause-directions g c =
     subst (AreDirections (directions c.args.accepted.now.model)) (sym c.as_slice-directions.ensures) c.requires.tensors.directions
 
-pub push_told-requires-clause-triples : goal.push_told-requires-clause-triples
-push_told-requires-clause-triples g c = subst (All IsTriple) (sym c.as_slice-blocks.ensures) c.in_ok-told.ensures.triples
+pub push_told-requires-clause-legs : goal.push_told-requires-clause-legs
+push_told-requires-clause-legs g c = subst (All HasLegs) (sym c.as_slice-blocks.ensures) c.in_ok-told.ensures.legs
 
 pub returns : goal.returns
 returns g c =

@@ -1,19 +1,14 @@
 use Rattle.std.proofs.Common.{sym, subst, ◌∙◌}
 use Rattle.std.specs.Prelude.{IfOk}
 use Rattle.derive_core.specs.Works.{MayBeTold, TellsOf}
-use Rattle.derive_core.proofs.Tellings.{scalar_direction, direction_told, directions_more}
+use Rattle.derive_core.proofs.Tellings.{direction_told, directions_more}
 use Rattle.derive_core.proofs.outcomes.with_direction.Goals as goal
-
-pub returns-then-rank-ne4-clause-value : goal.returns-then-rank-ne4-clause-value
-returns-then-rank-ne4-clause-value g c =
-    scalar_direction c.args.accepted.now.model c.args.accepted.now.tensors.directions c.requires.directions c.args.place c.item-direction.result.now c.item-direction.ensures
-    c.args.told (λ four. c.if-rank-ne4.true (c.rank.ensures.value ∙ four)) c.requires.told
 
 pub with_block-requires-clause-name : goal.with_block-requires-clause-name
 with_block-requires-clause-name g c κs within =
     let model = c.args.accepted.now.model in
     subst (MayBeTold model) (sym (c.in_ok-name.ensures ∙ c.as_slice.ensures))
-    (direction_told model c.args.accepted.now.tensors.directions c.requires.directions c.args.place c.item-direction.result.now c.item-direction.ensures c.requires.valid (sym c.rank.ensures.value ∙ c.if-rank-ne4.false))
+    (direction_told model c.args.accepted.now.tensors.directions c.requires.directions c.args.place c.item-direction.result.now c.item-direction.ensures c.requires.valid)
 
 pub returns-clause-value : goal.returns-clause-value
 returns-clause-value g c =

@@ -1,5 +1,5 @@
 use Rattle.derive_core.proofs.Sounds.{no_betas, has_terms}
-use Rattle.derive_core.proofs.outcomes.beta_tensor.Goals as goal
+use Rattle.derive_core.proofs.outcomes.yukawa_beta_tensor.Goals as goal
 
 pub returns-in-Ok : goal.returns-in-Ok
 returns-in-Ok g c =

@@ -1,6 +1,6 @@
 use Rattle.std.proofs.Common.{sym, ◌∙◌}
 use Rattle.derive_core.proofs.BlockLegs.{have_coordinates, legs_outside}
-use Rattle.derive_core.proofs.block_lines.component_from.Goals as goal
+use Rattle.derive_core.proofs.block_lines.fermion_component.Goals as goal
 
 pub component_at-requires-clause-inside : goal.component_at-requires-clause-inside
 component_at-requires-clause-inside c =
