@@ -1,7 +1,7 @@
 -- The component at a key, which has legs where each has a place, and the lines of blocks by their outcomes.
-use Rattle.std.specs.Prelude.{◌≡◌, ◌≤◌, ◌<◌, ◌&&◌, ◌⊎◌, if◌then◌else◌, ℕ, zero, suc, nat_lt, Bool, true, false, not, List, [], ◌∷◌, map, length, get_or, slice_get, Option, Some, None}
+use Rattle.std.specs.Prelude.{◌≡◌, ◌≤◌, ◌<◌, ◌&&◌, if◌then◌else◌, ℕ, zero, suc, nat_lt, Bool, true, false, not, List, [], ◌∷◌, map, length, get_or, slice_get, Some, None}
 use Rattle.std.specs.List.{list_any}
-use Rattle.std.proofs.Common.{refl, sym, ap, ap₂, ◌∙◌, inl, inr, arith, true≢false}
+use Rattle.std.proofs.Common.{refl, sym, ap, ap₂, ◌∙◌, arith}
 use Rattle.std.proofs.lemmas.Bool.Decides.{nat_tests}
 use Rattle.std.proofs.lemmas.List.{length-map}
 use Rattle.std.proofs.lemmas.Option.{slice_get_past, slice_get-get_or}

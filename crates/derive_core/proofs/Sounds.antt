@@ -14,7 +14,7 @@ use Rattle.beta_formulas.specs.ScalarBeta.{scalar_beta, scalar_beta_at}
 use Rattle.beta_formulas.specs.YukawaBeta.{yukawa_beta, yukawa_beta_at}
 use Rattle.yukawa_one_loop.proofs.NoYukawas.{beta_none}
 use Rattle.gauge_two_loop.proofs.YukawaValues.{no_entries}
-use Rattle.derive_core.specs.Acceptance.{HaveSolvers, AreSoundTerms}
+use Rattle.derive_core.specs.Acceptance.{AreSoundTerms}
 use Rattle.derive_core.specs.Blocks.{NoneIsDependent}
 use Rattle.derive_core.specs.Derivation.{MayBeLarge}
 use Rattle.derive_core.specs.Surveys.{TellsDependence, IsSurvey}

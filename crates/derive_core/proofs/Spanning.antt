@@ -1,5 +1,5 @@
 -- What a block has of a tensor with the values of its beta tensor is what it has of the beta tensor.
-use Rattle.std.proofs.Common.{◌≡◌, ℕ, zero, suc, Bool, true, false, List, [], ◌∷◌, map, length, Option, Some, None, refl, sym, ap, subst, ◌∙◌, inl, inr, arith, true≢false}
+use Rattle.std.proofs.Common.{◌≡◌, ℕ, suc, Bool, true, false, List, [], ◌∷◌, map, length, Option, Some, None, refl, sym, ap, subst, ◌∙◌, inl, inr, arith, true≢false}
 use Rattle.std.specs.Prelude.{◌==◌, slice_get, if◌then◌else◌}
 use Rattle.std.specs.List.{filter}
 use Rattle.std.proofs.lemmas.Bool.Decides.{nat_tests}
@@ -16,7 +16,7 @@ use Rattle.span_solver.specs.Coordinate.{AreCoordinates, IsOpenAt}
 use Rattle.span_solver.specs.Dependence.{Numbers}
 use Rattle.term_expand.specs.declared.token.Token.{Token}
 use Rattle.derive_core.specs.Acceptance.{HaveSolvers}
-use Rattle.derive_core.specs.Blocks.{name_of, is_of, directions_of, tensor_of, numbers_of}
+use Rattle.derive_core.specs.Blocks.{name_of, is_of, tensor_of, numbers_of}
 use Rattle.derive_core.specs.Outcomes.{IsOutcome}
 use Rattle.derive_core.specs.Surveys.{HasSolver}
 use Rattle.derive_core.specs.Works.{IsOutcomeOf}

@@ -1,23 +1,22 @@
 -- What one more block does to those that are told.
-use Rattle.std.proofs.Common.{◌≡◌, ◌≢◌, ℕ, zero, suc, ◌+◌, ◌≤◌, ◌<◌, Bool, true, false, List, [], ◌∷◌, ◌++◌, length, map, get_or, Option, Some, None, refl, sym, ap, subst, ◌∙◌, inl, inr, arith, true≢false}
+use Rattle.std.proofs.Common.{◌≡◌, ◌≢◌, ℕ, Bool, true, false, List, [], ◌∷◌, length, Some, sym, ap, subst, ◌∙◌, inl, inr, true≢false}
 use Rattle.std.specs.Prelude.{if◌then◌else◌, slice_get}
-use Rattle.std.specs.List.{All, AllByRecursion, insert, filter}
+use Rattle.std.specs.List.{insert}
 use Rattle.std.proofs.lemmas.List.Elements.{All-from_recursion, recursion_from_All}
 use Rattle.std.proofs.lemmas.List.Sums.{prefix_len-le-length}
 use Rattle.beta_poly.specs.Polynomial.{Polynomial, zero_poly}
-use Rattle.sparse_tensor.specs.Tensor.{Tensor, HasValues, entries_of, value}
 use Rattle.model_core.specs.declared.model.Model.{Model}
 use Rattle.model_core.specs.Content.{is_before}
 use Rattle.model_core.specs.Directions.{Direction, directions}
 use Rattle.term_expand.specs.declared.token.Token.{Token}
 use Rattle.span_solver.specs.BlockDirections.{same_name}
-use Rattle.derive_core.specs.Blocks.{name_of, is_of}
-use Rattle.derive_core.specs.Outcomes.{HasCoupling, HasBeta, HasSomething, IsTold, IsOutcome, Ascend, IsAmong, AreTold}
-use Rattle.derive_core.specs.Works.{is_at, HasLegs, AreSome, AreKept, TellsOf, MayBeTold, TellsDirections, TellsEntries, IsWholeTold}
-use Rattle.derive_core.specs.BlockBetas.{IsLegCount, name_cmp, name_at, side_beta, block_beta}
+use Rattle.derive_core.specs.Blocks.{name_of}
+use Rattle.derive_core.specs.Outcomes.{IsTold, IsOutcome}
+use Rattle.derive_core.specs.Works.{is_at, HasLegs, AreSome, TellsOf, MayBeTold}
+use Rattle.derive_core.specs.BlockBetas.{IsLegCount, name_cmp, name_at, side_beta}
 use Rattle.derive_core.specs.declared.outcomes.Outcome.{Outcome}
 use Rattle.derive_core.specs.declared.outcomes.Told.{Told}
-use Rattle.derive_core.proofs.NameOrder.{name_same, name_itself}
+use Rattle.derive_core.proofs.NameOrder.{name_itself}
 use Rattle.derive_core.proofs.ToldLists.{place_of, ascend_put, all_put, among_put, put_among, among_at}
 
 -- ---- one block more

@@ -1,24 +1,21 @@
 -- The loops over directions and entries that tell of their blocks.
-use Rattle.std.proofs.Common.{◌≡◌, ◌≢◌, ℕ, zero, suc, ◌+◌, ◌≤◌, ◌<◌, Bool, true, false, List, [], ◌∷◌, ◌++◌, length, Option, Some, None, Result, Ok, Err, refl, sym, ap, subst, ◌∙◌, inl, inr, arith, true≢false}
-use Rattle.std.specs.Prelude.{◌⊎◌, if◌then◌else◌, slice_get, IfOk}
-use Rattle.std.proofs.lemmas.List.{length-append}
-use Rattle.beta_poly.specs.Polynomial.{Polynomial, zero_poly}
-use Rattle.sparse_tensor.specs.Tensor.{Tensor, HasValues, rank_of, entries_of, value}
+use Rattle.std.proofs.Common.{◌≡◌, ℕ, zero, suc, ◌+◌, ◌≤◌, ◌<◌, List, [], ◌∷◌, length, Some, Result, Ok, Err, refl, sym, ap, subst, ◌∙◌, inl, inr, arith}
+use Rattle.std.specs.Prelude.{◌⊎◌, slice_get, IfOk}
+use Rattle.beta_poly.specs.Polynomial.{Polynomial}
+use Rattle.sparse_tensor.specs.Tensor.{Tensor, rank_of, entries_of}
 use Rattle.sparse_tensor.specs.declared.fault.TensorFault.{TensorFault}
 use Rattle.model_core.specs.declared.model.Model.{Model}
 use Rattle.model_core.specs.declared.term.TermKind.{TermKind}
 use Rattle.model_core.specs.declared.term.TermKind.TheVariants.{Fermion, Scalar}
-use Rattle.model_core.specs.Content.{is_before, is_fermionic}
 use Rattle.model_core.specs.Directions.{Direction, directions}
 use Rattle.model_core.specs.Valid.{IsValid}
 use Rattle.term_expand.specs.declared.directions.Direction.{Direction as Found}
-use Rattle.term_expand.specs.declared.token.Token.{Token}
-use Rattle.term_expand.specs.Expansion.{AreDirections, IsDirection}
+use Rattle.term_expand.specs.Expansion.{AreDirections}
 use Rattle.term_expand.specs.Texts.{leg_count}
 use Rattle.derive_core.specs.Blocks.{name_of}
 use Rattle.derive_core.specs.Outcomes.{IsAmong}
-use Rattle.derive_core.specs.Works.{AreSome, AreKept, TellsOf, MayBeTold, TellsDirections, AreDirectionsTold, TellsEntries, AreEntriesTold, AreSideValues, AreSidesTold, IsEntryKey}
-use Rattle.derive_core.specs.BlockBetas.{IsLegCount, name_at, side_beta}
+use Rattle.derive_core.specs.Works.{AreSome, TellsOf, MayBeTold, AreDirectionsTold, AreEntriesTold, AreSideValues, AreSidesTold, IsEntryKey}
+use Rattle.derive_core.specs.BlockBetas.{IsLegCount, name_at}
 use Rattle.derive_core.specs.declared.outcomes.Told.{Told}
 use Rattle.derive_core.proofs.BlockNumbers.{meant_at, IsMeantAt}
 use Rattle.derive_core.proofs.Elements.{in_at}

@@ -1,13 +1,12 @@
 -- Blocks put in their place among those that are told.
-use Rattle.std.proofs.Common.{◌≡◌, ℕ, zero, suc, ◌+◌, ◌≤◌, ◌<◌, Bool, true, false, List, [], ◌∷◌, length, Option, Some, None, Ordering, Less, Equal, Greater, refl, sym, ap, subst, ◌∙◌, inl, inr, arith, true≢false}
-use Rattle.std.specs.Prelude.{⊤, slice_get}
-use Rattle.std.specs.List.{All, AllByRecursion, insert, prefix_len}
-use Rattle.model_core.specs.declared.model.Model.{Model}
+use Rattle.std.proofs.Common.{◌≡◌, ℕ, zero, suc, ◌+◌, ◌≤◌, true, false, List, [], ◌∷◌, length, Ordering, Less, Equal, Greater, refl, sym, ap, ◌∙◌, inl, inr, arith, true≢false}
+use Rattle.std.specs.Prelude.{⊤}
+use Rattle.std.specs.List.{AllByRecursion, insert, prefix_len}
 use Rattle.model_core.specs.Content.{is_before}
 use Rattle.term_expand.specs.declared.token.Token.{Token}
 use Rattle.span_solver.specs.BlockDirections.{same_name}
-use Rattle.derive_core.specs.Outcomes.{Ascend, IsAmong, IsTold}
-use Rattle.derive_core.specs.Works.{is_at, is_named}
+use Rattle.derive_core.specs.Outcomes.{Ascend, IsAmong}
+use Rattle.derive_core.specs.Works.{is_at}
 use Rattle.derive_core.specs.BlockBetas.{name_cmp}
 use Rattle.derive_core.specs.declared.outcomes.Told.{Told}
 use Rattle.derive_core.proofs.NameOrder.{greater_less, name_same, name_itself, name_equal}

@@ -1,5 +1,5 @@
 -- All blocks with something to tell are told, where those of the directions and of the entries of the beta tensors are.
-use Rattle.std.proofs.Common.{◌≡◌, ◌≢◌, ℕ, zero, suc, ◌≤◌, ◌<◌, Bool, true, false, List, [], ◌∷◌, length, Option, Some, None, Result, Ok, Err, Ordering, Less, Equal, Greater, refl, sym, ap, subst, ◌∙◌, inl, inr, arith, true≢false}
+use Rattle.std.proofs.Common.{◌≡◌, ◌≢◌, ℕ, zero, suc, ◌<◌, Bool, true, false, List, [], ◌∷◌, length, Some, Result, Ok, Err, Ordering, Less, Equal, Greater, refl, sym, ap, subst, ◌∙◌, inl, inr, arith}
 use Rattle.std.specs.Prelude.{◌==◌, if◌then◌else◌, slice_get, IfOk}
 use Rattle.std.specs.List.{flat_map}
 use Rattle.std.proofs.lemmas.Bool.Decides.{nat_tests}
@@ -15,11 +15,11 @@ use Rattle.sparse_tensor.specs.Tensor.{Tensor, Entries, HasValues, rank_of, entr
 use Rattle.sparse_tensor.specs.declared.fault.TensorFault.{TensorFault}
 use Rattle.model_core.specs.declared.model.Model.{Model}
 use Rattle.model_core.specs.Content.{is_before}
-use Rattle.model_core.specs.Directions.{Direction, directions, entries_from, entry_directions}
+use Rattle.model_core.specs.Directions.{directions, entries_from, entry_directions}
 use Rattle.term_expand.specs.declared.token.Token.{Token}
 use Rattle.span_solver.specs.BlockDirections.{same_name}
 use Rattle.derive_core.specs.Blocks.{name_of}
-use Rattle.derive_core.specs.Outcomes.{HasCoupling, HasBeta, HasSomething, IsAmong}
+use Rattle.derive_core.specs.Outcomes.{HasSomething, IsAmong}
 use Rattle.derive_core.specs.SideBetas.{AreSideBetas}
 use Rattle.derive_core.specs.Works.{AreSides, AreSome, TellsDirections, AreDirectionsTold, TellsEntries, AreSideValues, AreSidesTold, IsWholeTold}
 use Rattle.derive_core.specs.BlockBetas.{IsLegCount, name_cmp, name_at, scalar_content, scalar_side, scalar_side_beta, conjugate_beta_at, side_beta, block_beta}

@@ -1,5 +1,5 @@
 -- A model that is accepted, with what is kept of it for its derivation.
-use Rattle.std.specs.Prelude.{◌≡◌, ℕ, List, [], ⊤, slice_get, Option, Some, None}
+use Rattle.std.specs.Prelude.{◌≡◌, ℕ, List, [], ⊤, slice_get, Some}
 use Rattle.std.specs.List.{All}
 use Rattle.model_core.specs.declared.model.Model.{Model}
 use Rattle.model_core.specs.Anomaly.{anomalies}

@@ -1,7 +1,7 @@
 -- The lines of a derivation: gauge couplings, then the other couplings in the order of their symbols, then the open and the generated
 -- blocks in the order of their names, those with fermions first.
 use Rattle.std.specs.Prelude.{◌==◌, ℕ, Bool, not, if◌then◌else◌, List, [], ◌∷◌, ◌++◌, map, length, slice_get, Option, Some, None}
-use Rattle.std.specs.List.{enumerate_from, flat_map, filter, list_any}
+use Rattle.std.specs.List.{enumerate_from, flat_map, list_any}
 use Rattle.beta_poly.specs.Monomial.{power}
 use Rattle.beta_poly.specs.Polynomial.{Polynomial, term as poly_term}
 use Rattle.model_core.specs.declared.field.Field.{Field}

@@ -1,8 +1,8 @@
 -- What is told of the blocks: coordinates, or the first component up to which there are none.
-use Rattle.std.specs.Prelude.{◌≡◌, ◌≢◌, ◌⊎◌, ⊤, ℕ, Bool, true, List, [], ◌∷◌, slice_get, Some}
+use Rattle.std.specs.Prelude.{◌≡◌, ◌≢◌, ◌⊎◌, ⊤, ℕ, true, List, [], ◌∷◌, slice_get, Some}
 use Rattle.std.specs.List.{All}
 use Rattle.std.proofs.Common.{Less}
-use Rattle.beta_poly.specs.Polynomial.{Polynomial, zero_poly}
+use Rattle.beta_poly.specs.Polynomial.{zero_poly}
 use Rattle.model_core.specs.declared.model.Model.{Model}
 use Rattle.model_core.specs.Directions.{Direction, directions}
 use Rattle.term_expand.specs.declared.token.Token.{Token}

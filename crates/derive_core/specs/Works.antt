@@ -1,5 +1,5 @@
 -- What the steps towards the outcomes of blocks find.
-use Rattle.std.specs.Prelude.{◌≡◌, ◌≢◌, ◌<◌, ℕ, Bool, true, false, nat_lt, ◌&&◌, List, [], ◌∷◌, length, slice_get, Option, Some, None}
+use Rattle.std.specs.Prelude.{◌≡◌, ◌≢◌, ◌<◌, ℕ, Bool, false, nat_lt, ◌&&◌, List, [], ◌∷◌, length, slice_get, Option, Some, None}
 use Rattle.std.specs.List.{All}
 use Rattle.beta_poly.specs.Polynomial.{Polynomial, zero_poly}
 use Rattle.sparse_tensor.specs.Tensor.{Tensor, HasValues, rank_of, entries_of, value}

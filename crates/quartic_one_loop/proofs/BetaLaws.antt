@@ -1,14 +1,14 @@
 -- The beta functions of scalar couplings at coordinates in another order, and at dummies.
 use Rattle.std.specs.Prelude.{◌≡◌, ◌≢◌, ◌⊎◌, suc, nat_le, List, [], ◌∷◌, length, IsPermutation}
 use Rattle.std.proofs.Common.{cond, refl, sym, ap, ap₂, ◌∙◌, arith, inl, inr}
-use Rattle.exact_algebra.specs.Orders.{Rearranged, sum_orders, sum_orders-rearranged}
+use Rattle.exact_algebra.specs.Orders.{Rearranged, sum_orders-rearranged}
 use Rattle.exact_algebra.specs.Orders.Rearranged.{same, keep, swap, then}
 use Rattle.exact_algebra.specs.Permuted.{Rearranged-permuted}
-use Rattle.beta_poly.specs.Polynomial.{Polynomial, poly_ring, zero_poly}
+use Rattle.beta_poly.specs.Polynomial.{poly_ring, zero_poly}
 use Rattle.model_core.specs.declared.model.Model.{Model}
 use Rattle.model_core.specs.Scalar.{Coordinate}
 use Rattle.model_core.specs.Scalar.Coordinate.{Of, Dummy}
-use Rattle.beta_formulas.specs.ScalarBeta.{FourLegs, at_four, over_orders, dummy_count, beta_function, scalar_beta}
+use Rattle.beta_formulas.specs.ScalarBeta.{FourLegs, at_four, dummy_count, beta_function, scalar_beta}
 use Rattle.quartic_one_loop.specs.OrderShares.{order_share}
 use Rattle.quartic_one_loop.proofs.QuarticSymmetry.{Rearranged-length}
 use Rattle.quartic_one_loop.proofs.OrderSums.{over_orders-shares}

@@ -1,7 +1,7 @@
 -- The beta functions from what one order of the legs gives.
 use Rattle.std.specs.Prelude.{◌≡◌, ◌≢◌, ◌<◌, ℕ, zero, suc, List, [], ◌∷◌, map, length}
 use Rattle.std.specs.List.{All}
-use Rattle.std.proofs.Common.{cond, subst, refl, sym, ap, ◌∙◌, arith}
+use Rattle.std.proofs.Common.{cond, subst, sym, ap, ◌∙◌, arith}
 use mathlib.Core.Path.{fun_ext}
 use Rattle.exact_algebra.specs.Sums.{sum}
 use Rattle.exact_algebra.specs.Orders.{orders}

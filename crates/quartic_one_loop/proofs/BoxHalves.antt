@@ -1,7 +1,7 @@
 -- The halves of the loop of four Yukawa couplings and the whole loop, as contractions.
 use Rattle.std.specs.Prelude.{◌≡◌, ◌+◌, ◌-◌, ℕ, List, [], ◌∷◌, length, slice_get, Option, Some, None, option_map}
 use Rattle.std.specs.List.{insert}
-use Rattle.std.proofs.Common.{refl, sym, ap, ap₂, ◌∙◌, arith}
+use Rattle.std.proofs.Common.{refl, sym, ap, ap₂, ◌∙◌}
 use Rattle.std.proofs.lemmas.Option.{slice_get-map}
 use mathlib.Core.Path.{fun_ext}
 use Rattle.exact_algebra.specs.Ring.{zero_mul}

@@ -1,7 +1,7 @@
 -- Tensors without their entries with more than two dummies.
 use Rattle.std.specs.Prelude.{◌≡◌, ◌+◌, ◌==◌, ℕ, zero, suc, nat_le, Bool, true, false, List, [], ◌∷◌, ◌++◌, map, length, slice_get, Option, Some, None, count_by}
 use Rattle.std.specs.List.{All, flat_map}
-use Rattle.std.proofs.Common.{cond, subst, refl, sym, ap, ap₂, ◌∙◌, arith, Equal}
+use Rattle.std.proofs.Common.{cond, subst, refl, sym, ap, ap₂, ◌∙◌, arith}
 use Rattle.std.proofs.lemmas.List.{length-map}
 use Rattle.std.proofs.lemmas.List.Elements.{All-append}
 use Rattle.std.proofs.lemmas.List.Sums.{sum_by-cons}
@@ -22,7 +22,7 @@ use Rattle.model_core.proofs.ScalarLaws.{dummy_at}
 use Rattle.term_expand.proofs.Added.{gathered_none}
 use Rattle.term_expand.proofs.Legs.{of_four}
 use Rattle.term_expand.proofs.Sides.{gathered-append}
-use Rattle.beta_formulas.specs.ScalarBeta.{FourLegs, at_four, over_orders, dummy_count, scalar_beta, scalar_beta_at}
+use Rattle.beta_formulas.specs.ScalarBeta.{at_four, over_orders, dummy_count, scalar_beta, scalar_beta_at}
 use Rattle.quartic_one_loop.specs.FewDummies.{has_few, formed, formed_at}
 use Rattle.quartic_one_loop.specs.FourLegs.{four_at}
 use Rattle.quartic_one_loop.specs.OrderShares.{order_share}

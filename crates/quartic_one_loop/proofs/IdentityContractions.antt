@@ -1,7 +1,7 @@
 -- Contractions along the links from each fermion component to itself.
-use Rattle.std.specs.Prelude.{◌≡◌, ◌+◌, ◌-◌, ℕ, List, [], ◌∷◌, length, get_or, slice_get, Option, Some, None}
+use Rattle.std.specs.Prelude.{◌≡◌, ◌+◌, ℕ, List, length, get_or, slice_get, Option, Some, None}
 use Rattle.std.specs.List.{insert, range_with_len}
-use Rattle.std.proofs.Common.{sym, subst, ap, ap₂, ◌∙◌, arith}
+use Rattle.std.proofs.Common.{sym, subst, ap, ◌∙◌, arith}
 use Rattle.std.proofs.lemmas.Option.{slice_get-get_or}
 use mathlib.Core.Path.{fun_ext}
 use Rattle.exact_algebra.specs.Maps.{const-one}

@@ -15,7 +15,7 @@ use Rattle.frac128.specs.Rational.{ℚ, zero_ℚ, one_ℚ, ◌+ℚ◌, ◌*ℚ�
 use Rattle.frac128.specs.RationalLaws.{ring_ℚ}
 use Rattle.beta_poly.specs.Exponents.{AllWithin}
 use Rattle.beta_poly.specs.Monomial.{monomials, one_monomial}
-use Rattle.beta_poly.specs.Polynomial.{Polynomial, poly_ring, zero_test, zero_poly, add_poly, mul_poly, scale_poly, constant}
+use Rattle.beta_poly.specs.Polynomial.{Polynomial, poly_ring, zero_test, add_poly, mul_poly, scale_poly, constant}
 use Rattle.beta_poly.proofs.ExponentLaws.{AllWithin-term, IsWithin-one}
 use Rattle.sparse_tensor.specs.declared.links.Link.{Link}
 use Rattle.sparse_tensor.specs.declared.values.Value.{Value}

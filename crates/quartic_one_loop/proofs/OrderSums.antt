@@ -1,12 +1,12 @@
 -- Sums over the orders of four legs.
-use Rattle.std.specs.Prelude.{◌≡◌, ℕ, zero, suc, ◌+◌, ◌*◌, pos, List, [], ◌∷◌, map, length, slice_get, Option, Some, None}
-use Rattle.std.proofs.Common.{refl, sym, ap, ap₂, ◌∙◌, arith, Bool}
+use Rattle.std.specs.Prelude.{◌≡◌, ℕ, zero, suc, ◌+◌, pos, List, [], ◌∷◌, map, length, slice_get, Option, Some, None}
+use Rattle.std.proofs.Common.{refl, sym, ap, ap₂, ◌∙◌, arith}
 use mathlib.Core.Path.{fun_ext}
-use Rattle.exact_algebra.specs.Orders.{Rearranged, orders, orders-rearranged, picks, factorial, sum_orders, sum_orders-rearranged, sum_orders-map, sum_orders-picks, sum_orders-symmetric}
+use Rattle.exact_algebra.specs.Orders.{Rearranged, orders, orders-rearranged, picks, factorial, sum_orders, sum_orders-map, sum_orders-picks, sum_orders-symmetric}
 use Rattle.exact_algebra.specs.Orders.Rearranged.{same, keep, swap, then}
 use Rattle.exact_algebra.specs.Maps.{const-IsSemiringMap}
 use Rattle.exact_algebra.specs.Sums.{sum, sum-cons, sum-nil, sum-add, sum-mul, sum-zero, sum-same_on, number, below-zero, below-suc}
-use Rattle.frac128.specs.Rational.{ℚ, zero_ℚ, one_ℚ, whole, neg_ℚ, reciprocal, ◌+ℚ◌, ◌*ℚ◌}
+use Rattle.frac128.specs.Rational.{ℚ, one_ℚ, whole, neg_ℚ, reciprocal, ◌*ℚ◌}
 use Rattle.frac128.specs.RationalLaws.{ring_ℚ, one-*ℚ, *ℚ_assoc, *ℚ_comm, neg_ℚ-*ℚ}
 use Rattle.frac128.specs.Whole.{whole-add, whole-mul, times_inverse}
 use Rattle.beta_poly.specs.Monomial.{monomials}
@@ -15,11 +15,10 @@ use Rattle.sparse_tensor.specs.Operations.{put_back, symmetrised_at}
 use Rattle.sparse_tensor.proofs.Exchanged.{orders_long}
 use Rattle.su_reps.specs.Operators.{fraction}
 use Rattle.model_core.specs.declared.model.Model.{Model}
-use Rattle.model_core.specs.declared.term.TermKind.TheVariants.{Scalar}
 use Rattle.model_core.specs.Directions.{scalar_tensor}
 use Rattle.model_core.specs.GaugeTwoLoop.{negative}
 use Rattle.model_core.specs.Scalar.{Coordinate, scalar_coordinates}
-use Rattle.model_core.specs.TermTensor.{legs_of, with_coordinate, value_or, at_places}
+use Rattle.model_core.specs.TermTensor.{with_coordinate, value_or}
 use Rattle.beta_formulas.specs.ScalarBeta.{FourLegs, at_four, over_orders, over_legs, quartic, leg_line, charge_line, loop_line, box_line, gauge_line, loop_part, box_part, leg_part, charge_part, gauge_part, beta_function}
 use Rattle.quartic_one_loop.specs.FourLegs.{four_at}
 use Rattle.quartic_one_loop.specs.OrderShares.{loop_share, box_share, leg_share, charge_share, gauge_share, order_share}

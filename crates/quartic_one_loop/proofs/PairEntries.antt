@@ -14,7 +14,7 @@ use Rattle.model_core.specs.Generators.{coordinate_generator, generator_at}
 use Rattle.model_core.specs.Scalar.{Coordinate, partner_component, scalar_components, scalar_coordinates}
 use Rattle.model_core.specs.Scalar.Coordinate.{Of, Dummy}
 use Rattle.model_core.specs.TermTensor.{coordinate_projector}
-use Rattle.beta_formulas.specs.ScalarBeta.{pair_entry, product_entry}
+use Rattle.beta_formulas.specs.ScalarBeta.{pair_entry}
 use Rattle.quartic_one_loop.specs.GaugePairs.{NumberMatrix, at_partner, product_at, sum_at}
 use Rattle.quartic_one_loop.proofs.NumberMatrices.{after}
 

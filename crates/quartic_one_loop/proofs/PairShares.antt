@@ -13,7 +13,6 @@ use Rattle.model_core.specs.declared.group.Group.{Group}
 use Rattle.model_core.specs.declared.model.Model.{Model}
 use Rattle.model_core.specs.GaugeTwoLoop.{gauge_power, gauge_symbol}
 use Rattle.beta_formulas.specs.ScalarBeta.{generator_weight}
-use Rattle.quartic_one_loop.specs.FourLegs.{AreWithin}
 use Rattle.quartic_one_loop.specs.GaugePairs.{HasNumbers, NumberMatrix, group_coupling, share_factor}
 use Rattle.quartic_one_loop.proofs.NumberMatrices.{numbers_within}
 

@@ -1,8 +1,7 @@
 -- The sum over all pairs of generators is the sum over pairs of groups and the generators of each.
-use Rattle.std.specs.Prelude.{◌≡◌, ◌≤◌, ◌+◌, ◌==◌, ℕ, zero, suc, Bool, true, false, cond, List, [], ◌∷◌, map, slice_get, Some, option_map}
-use Rattle.std.specs.List.{enumerate_from, flat_map, range_with_len}
+use Rattle.std.specs.Prelude.{◌≡◌, ◌≤◌, ◌+◌, ℕ, suc, Bool, true, false, cond, List, [], ◌∷◌, map, slice_get, Some}
+use Rattle.std.specs.List.{enumerate_from, range_with_len}
 use Rattle.std.proofs.Common.{refl, sym, ap, ap₂, subst, ◌∙◌, arith, inl, inr}
-use Rattle.std.proofs.lemmas.List.FromFn.{length-enumerate_from}
 use mathlib.Core.Path.{fun_ext}
 use Rattle.exact_algebra.specs.Ring.{Semiring}
 use Rattle.exact_algebra.specs.Solver.{identity, var, ◌⊗◌}
@@ -21,7 +20,6 @@ use Rattle.model_core.specs.Scalar.{Coordinate}
 use Rattle.model_core.specs.Valid.{IsValid}
 use Rattle.term_expand.proofs.Projections.{constants}
 use Rattle.neighbour_laws.proofs.Members.{IsIn, in-flat_map, in-map, in-range}
-use Rattle.gauge_check.specs.Actions.{IsGenerator}
 use Rattle.gauge_check.proofs.ActionRuns.{group_special}
 use Rattle.beta_formulas.specs.ScalarBeta.{gauge_pair, generator_weight, opposite, pair_entry}
 use Rattle.quartic_one_loop.specs.declared.gauges.GaugeFactor.{GaugeFactor}

@@ -1,21 +1,20 @@
 -- The tensor with 1 at each scalar coordinate and its partner.
-use Rattle.std.specs.Prelude.{◌≡◌, ◌<◌, ◌≤◌, ◌+◌, ℕ, zero, suc, List, [], ◌∷◌, ◌++◌, map, length, get_or, slice_get, Some, option_map}
+use Rattle.std.specs.Prelude.{◌≡◌, ◌<◌, ◌≤◌, ◌+◌, ℕ, zero, suc, List, [], ◌∷◌, ◌++◌, map, length, get_or, slice_get, Some}
 use Rattle.std.specs.List.{All}
 use Rattle.std.specs.Ordering.{nat_cmp}
 use Rattle.std.proofs.Common.{refl, sym, ap, subst, ◌∙◌, arith}
-use Rattle.std.proofs.lemmas.Option.{slice_get_past, slice_get-get_or}
-use mathlib.Core.Path.{fun_ext}
+use Rattle.std.proofs.lemmas.Option.{slice_get-get_or}
 use Rattle.exact_algebra.specs.Kronecker.{where_same, where_then}
-use Rattle.exact_algebra.specs.Sums.{sum, sum-map, sum-by_place, below, below-at, below-none, below-same, nat_equal, where_equal, where_equal-apart}
+use Rattle.exact_algebra.specs.Sums.{sum-map, sum-by_place, below, below-at, below-none, below-same, nat_equal, where_equal, where_equal-apart}
 use Rattle.exact_algebra.specs.TensorContraction.{places_cmp}
-use Rattle.frac128.specs.Rational.{one_ℚ, zero_ℚ}
+use Rattle.frac128.specs.Rational.{one_ℚ}
 use Rattle.beta_poly.specs.Polynomial.{Polynomial, poly_ring, zero_poly, constant}
 use Rattle.sparse_tensor.specs.declared.values.Value.{Value}
-use Rattle.sparse_tensor.specs.Tensor.{Tensor, HasValues, value}
+use Rattle.sparse_tensor.specs.Tensor.{Tensor, HasValues}
 use Rattle.sparse_tensor.specs.Operations.{entry, gathered_at}
 use Rattle.sparse_tensor.proofs.Deltas.{place_same}
 use Rattle.model_core.specs.declared.model.Model.{Model}
-use Rattle.model_core.specs.Scalar.{partner, scalar_coordinates}
+use Rattle.model_core.specs.Scalar.{scalar_coordinates}
 use Rattle.quartic_one_loop.specs.GaugePairs.{ArePartnerValues, IsPartnerValue, IsPartners}
 
 -- a value for places that there aren't

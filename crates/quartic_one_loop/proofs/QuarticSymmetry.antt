@@ -9,7 +9,7 @@ use Rattle.exact_algebra.specs.Ring.{mul_left_comm}
 use Rattle.exact_algebra.specs.Sums.{sum, sum-mul, sum-swap}
 use Rattle.frac128.specs.Rational.{◌+ℚ◌, ◌*ℚ◌}
 use Rattle.frac128.specs.RationalLaws.{ring_ℚ}
-use Rattle.beta_poly.specs.Polynomial.{Polynomial, poly_ring, zero_poly, add_poly}
+use Rattle.beta_poly.specs.Polynomial.{poly_ring, zero_poly, add_poly}
 use Rattle.beta_poly.specs.Symbol.{conj_symbol}
 use Rattle.model_core.specs.declared.group.Group.{Group}
 use Rattle.model_core.specs.declared.model.Model.{Model}
@@ -17,7 +17,7 @@ use Rattle.model_core.specs.declared.term.Term.{Term}
 use Rattle.model_core.specs.declared.term.TermKind.{TermKind}
 use Rattle.model_core.specs.declared.term.TermKind.TheVariants.{Fermion, Scalar}
 use Rattle.model_core.specs.Content.{is_fermionic}
-use Rattle.model_core.specs.Directions.{CouplingEntry, entries, symbol_of, multiple, entry_tensor, conjugated, conjugate_tensor, conjugate_multiple, scalar_part, scalar_tensor}
+use Rattle.model_core.specs.Directions.{CouplingEntry, entries, symbol_of, multiple, entry_tensor, conjugated, conjugate_multiple, scalar_part, scalar_tensor}
 use Rattle.model_core.specs.MonomialValue.{text_at}
 use Rattle.model_core.specs.Scalar.{Coordinate, partner, scalar_coordinates}
 use Rattle.model_core.specs.TermTensor.{Numbers, legs_of, coordinate_projector, projected, scalar_ways, all_ways, text_tensor, has_two_texts, symbol_tensor}

@@ -1,7 +1,6 @@
 -- Slices of tensors at a place of a leg.
-use Rattle.std.specs.Prelude.{◌≡◌, ◌+◌, ◌-◌, ◌<◌, ◌≤◌, ◌==◌, ℕ, zero, suc, Bool, true, false, List, [], ◌∷◌, ◌++◌, map, length, get_or, slice_get, Some}
+use Rattle.std.specs.Prelude.{◌≡◌, ◌-◌, ◌<◌, ◌≤◌, ◌==◌, ℕ, zero, suc, Bool, true, false, List, [], ◌∷◌, map, length, get_or, slice_get, Some}
 use Rattle.std.specs.List.{All, flat_map, insert, remove}
-use Rattle.std.specs.Ordering.{nat_cmp}
 use Rattle.std.proofs.Common.{cond, subst, refl, sym, ap, ap₂, ◌∙◌, arith, Equal}
 use Rattle.std.proofs.lemmas.Cmp.{nat_list_cmp_total, tied_itself}
 use Rattle.std.proofs.lemmas.List.Elements.{All-append}
@@ -11,7 +10,7 @@ use Rattle.exact_algebra.specs.Kronecker.{where_same}
 use Rattle.exact_algebra.specs.Sums.{sum-one, where_equal, where_equal-apart}
 use Rattle.exact_algebra.specs.TensorContraction.{places_keys, places_cmp, places_equal}
 use Rattle.beta_poly.specs.Exponents.{AllWithin}
-use Rattle.beta_poly.specs.Polynomial.{Polynomial, poly_ring, zero_poly, add_poly}
+use Rattle.beta_poly.specs.Polynomial.{Polynomial, poly_ring, add_poly}
 use Rattle.sparse_tensor.specs.declared.values.Value.{Value}
 use Rattle.sparse_tensor.specs.Tensor.{Tensor, Entries, HasRank, HasValues, poly_zero_test, rank_of, entries_of, value, value_in}
 use Rattle.sparse_tensor.specs.Operations.{entry, gathered_at}

@@ -1,5 +1,5 @@
 -- Pairs of generators on the scalar coordinates, and what they add to the values at four legs.
-use Rattle.std.specs.Prelude.{◌≡◌, ◌<◌, ◌≤◌, ◌==◌, ℕ, zero, suc, false, List, [], ◌∷◌, map, length, slice_get, Option, Some, None, option_map}
+use Rattle.std.specs.Prelude.{◌≡◌, ◌<◌, ◌≤◌, ◌==◌, ℕ, zero, false, List, [], ◌∷◌, map, length, slice_get, Option, Some, None, option_map}
 use Rattle.std.specs.List.{All}
 use Rattle.std.specs.Ordering.{nat_cmp}
 use Rattle.exact_algebra.specs.Sums.{sum, where_equal}
@@ -16,7 +16,7 @@ use Rattle.model_core.specs.GaugeTwoLoop.{gauge_power}
 use Rattle.model_core.specs.Generators.{coordinate_generator}
 use Rattle.model_core.specs.Invariance.{matrix_at}
 use Rattle.model_core.specs.Scalar.{Coordinate, partner, partner_component, scalar_coordinates}
-use Rattle.model_core.specs.Scalar.Coordinate.{Of, Dummy}
+use Rattle.model_core.specs.Scalar.Coordinate.{Of}
 use Rattle.gauge_check.specs.Actions.{AreMatrix, IsGenerator}
 use Rattle.beta_formulas.specs.ScalarBeta.{FourLegs, generator_weight, opposite, pair_entry, product_entry}
 use Rattle.quartic_one_loop.specs.declared.gauges.GaugeFactor.{GaugeFactor}

@@ -1,5 +1,5 @@
 //! The loop of gauge couplings.
-ghost use Rattle.std.specs.Prelude.{◌≡◌, ◌<◌, ◌^◌, slice_get, Some, IfOk, OnOk, IfErr};
+ghost use Rattle.std.specs.Prelude.{◌≡◌, ◌<◌, ◌^◌, IfOk, OnOk, IfErr};
 ghost use Rattle.beta_poly.specs.Exponents.{AllWithin};
 ghost use Rattle.sparse_tensor.specs.Refusals.{IsTensorRefusal};
 ghost use Rattle.su_reps.specs.Operators.{fraction};

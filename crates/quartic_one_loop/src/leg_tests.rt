@@ -1,5 +1,8 @@
 //! The self-energy and the charge of the first leg for one scalar field, worked out by hand. The symbols of gauge couplings come
 //! first, then those of terms.
+ghost use Rattle.model_core.specs.Valid.{IsValid};
+ghost use Rattle.term_expand.specs.Expansion.{IsExpansion};
+
 use crate::charges::push_charges;
 use crate::legs::push_legs;
 use crate::loop_tests::{model_of, name_of, push_term, told};
@@ -8,12 +11,12 @@ use model_core::{
     Factor, FactorList, Field, FieldList, Generation, Group, Model, Monomial, MonomialList,
     RepList, Shape, Term, TermKind, is_valid,
 };
-use sparse_tensor::{Sparse, ValueList};
+use sparse_tensor::{Sparse, TensorFault, ValueList};
 use std::alloc::Global;
 use std::process::Abort;
 use std::test::Fail;
 use su_reps::Rep;
-use term_expand::expand;
+use term_expand::{Tensors, expand};
 
 /// A fermion F without charges.
 fn push_fermion(rt: &impl Abort, alloc: Global, model: &mut Model) -> Result<(), Fail> {
@@ -89,26 +92,40 @@ fn charge_scalar(rt: &impl Abort, alloc: Global, model: &mut Model) -> Result<()
     Ok(())
 }
 
-/// The self-energies of the first legs of a valid model, as a tensor.
+/// The self-energies of the first legs, as a tensor.
+fn legs_from(alloc: Global, model: &Model, tensors: &Tensors) -> Result<Sparse, TensorFault>
+    requires valid { IsValid model.now }
+    requires tensors { IsExpansion model.now tensors.now }
+{
+    let mut values = ValueList::new(alloc);
+    push_legs(alloc, model, &tensors.yukawa, &tensors.scalar, &mut values)?;
+    Sparse::gather(alloc, 4, values)
+}
+
+/// The charges of the first legs, as a tensor.
+fn charges_from(alloc: Global, model: &Model, tensors: &Tensors) -> Result<Sparse, TensorFault>
+    requires valid { IsValid model.now }
+    requires tensors { IsExpansion model.now tensors.now }
+{
+    let mut values = ValueList::new(alloc);
+    push_charges(alloc, model, &tensors.scalar, &mut values)?;
+    Sparse::gather(alloc, 4, values)
+}
+
+/// The self-energies of the first legs of a valid model.
 fn legs_of(rt: &impl Abort, alloc: Global, model: &Model) -> Result<Sparse, Fail> {
     assert!(rt; is_valid(alloc, model)?);
     let tensors = expand(alloc, model).ok().expect(rt, "tensors");
-    let mut values = ValueList::new(alloc);
-    push_legs(alloc, model, &tensors.yukawa, &tensors.scalar, &mut values)
-        .ok()
-        .expect(rt, "values");
-    Ok(Sparse::gather(alloc, 4, values).ok().expect(rt, "a tensor"))
+    let legs = legs_from(alloc, model, &tensors);
+    Ok(legs.ok().expect(rt, "a tensor"))
 }
 
-/// The charges of the first legs of a valid model, as a tensor.
+/// The charges of the first legs of a valid model.
 fn charges_of(rt: &impl Abort, alloc: Global, model: &Model) -> Result<Sparse, Fail> {
     assert!(rt; is_valid(alloc, model)?);
     let tensors = expand(alloc, model).ok().expect(rt, "tensors");
-    let mut values = ValueList::new(alloc);
-    push_charges(alloc, model, &tensors.scalar, &mut values)
-        .ok()
-        .expect(rt, "values");
-    Ok(Sparse::gather(alloc, 4, values).ok().expect(rt, "a tensor"))
+    let charges = charges_from(alloc, model, &tensors);
+    Ok(charges.ok().expect(rt, "a tensor"))
 }
 
 // Y[S] is 2 y, so that S2(S,S) is 4 y^2. L(S,S,S,S) is the symbol 0 and L(S,S,.,.) the symbol 1, where the dummy is at place 1.

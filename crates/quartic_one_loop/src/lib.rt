@@ -2,6 +2,8 @@
 #![tactic(auto)]
 
 mod betas;
+#[cfg(test)]
+mod box_tests;
 mod boxes;
 mod charges;
 mod conjugates;

@@ -12,6 +12,7 @@ use std::process::Abort;
 use std::test::Fail;
 use term_expand::expand;
 
+/// The name of this text.
 pub fn name_of(rt: &impl Abort, text: &str) -> Name {
     Name::new(text.as_bytes()).ok().expect(rt, "a name")
 }
@@ -83,12 +84,10 @@ pub fn push_term(
 /// The loop of a valid model, as a tensor.
 fn loop_of(rt: &impl Abort, alloc: Global, model: &Model) -> Result<Sparse, Fail> {
     assert!(rt; is_valid(alloc, model)?);
-    let tensors = expand(alloc, model).ok().expect(rt, "tensors");
+    let tensors = expand(alloc, model).expect(rt, "tensors");
     let mut values = ValueList::new(alloc);
-    push_loops(alloc, model, &tensors.scalar, &mut values)
-        .ok()
-        .expect(rt, "values");
-    Ok(Sparse::gather(alloc, 4, values).ok().expect(rt, "a tensor"))
+    push_loops(alloc, model, &tensors.scalar, &mut values).expect(rt, "values");
+    Ok(Sparse::gather(alloc, 4, values).expect(rt, "a tensor"))
 }
 
 /// Adds a polynomial: each coefficient with the ids of its symbols and their exponents.

@@ -1,7 +1,7 @@
-use Rattle.std.proofs.Common.{◌≡◌, ◌-◌, length, arith, ◌∙◌}
+use Rattle.std.proofs.Common.{◌≡◌, ◌-◌, length, arith}
 use Rattle.std.proofs.lemmas.Result.{IfOk-weaker}
 use Rattle.sparse_tensor.specs.Tensor.{HasValues, rank_of, value}
-use Rattle.model_core.specs.Scalar.{scalar_components, scalar_coordinates}
+use Rattle.model_core.specs.Scalar.{scalar_components}
 use Rattle.beta_formulas.specs.ScalarBeta.{scalar_beta_at}
 use Rattle.yukawa_one_loop.proofs.Coordinates.{coordinates_count}
 use Rattle.quartic_one_loop.specs.FewDummies.{formed_at}

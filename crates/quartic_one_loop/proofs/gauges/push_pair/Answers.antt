@@ -1,8 +1,7 @@
-use Rattle.std.proofs.Common.{ap₂, sym, subst, arith, ◌∙◌}
+use Rattle.std.proofs.Common.{ap₂, subst, arith, ◌∙◌}
 use Rattle.std.specs.Prelude.{OnOk}
 use Rattle.std.proofs.lemmas.Result.{IfOk-at_ok}
 use Rattle.beta_poly.specs.Polynomial.{mul_poly}
-use Rattle.model_core.specs.declared.model.Model.{Model}
 use Rattle.beta_formulas.specs.ScalarBeta.{opposite, pair_entry}
 use Rattle.quartic_one_loop.specs.FourLegs.{AddsFour}
 use Rattle.quartic_one_loop.specs.GaugePairs.{HasNumbers, share_factor}

@@ -1,5 +1,4 @@
-use Rattle.std.proofs.Common.{ap₂, ◌∙◌, arith}
-use Rattle.beta_poly.specs.Polynomial.{scale_poly}
+use Rattle.std.proofs.Common.{arith}
 use Rattle.beta_poly.proofs.ExponentLaws.{products_fit_within}
 use Rattle.quartic_one_loop.proofs.gauges.share_factor.Goals as goal
 

@@ -1,7 +1,7 @@
-use Rattle.std.proofs.Common.{◌≡◌, ◌++◌, map, ap, ◌∙◌}
+use Rattle.std.proofs.Common.{◌++◌, map, ap, ◌∙◌}
 use Rattle.std.proofs.lemmas.Result.{IfOk-weaker}
 use Rattle.sparse_tensor.specs.Operations.{entry, gathered_at}
-use Rattle.sparse_tensor.specs.Tensor.{HasValues, entries_of, rank_of}
+use Rattle.sparse_tensor.specs.Tensor.{HasValues, entries_of}
 use Rattle.gauge_check.specs.Actions.{value_of}
 use Rattle.quartic_one_loop.specs.GaugePairs.{HasNumbers, sum_at}
 use Rattle.quartic_one_loop.proofs.NumberMatrices.{has_sum, sum_keys}
