@@ -7,7 +7,7 @@ use Rattle.model_core.specs.declared.group.Group.{Group}
 use Rattle.model_core.specs.declared.field.Field.{Field}
 use Rattle.model_core.specs.declared.model.Model.{Model}
 use Rattle.model_core.specs.declared.fault.ReadFault.{ReadFault}
-use Rattle.model_core.specs.declared.fault.ReadKind.TheVariants.{BadNumber, BadTermText, UnknownField, WrongSlots, LabelCount, WrongContent, Unbuilt}
+use Rattle.model_core.specs.declared.fault.ReadKind.TheVariants.{BadNumber, BadTermText, UnknownField, WrongSlots, LabelCount, WrongContent}
 use Rattle.model_core.specs.declared.fault.FaultPlace.{FaultPlace}
 use Rattle.model_core.specs.declared.sum.Span.{Span}
 use Rattle.model_core.specs.declared.sum.WrittenLiteral.{WrittenLiteral}
@@ -197,15 +197,9 @@ abbrev pub first_offset : List WrittenFactor → ℕ
 first_offset [] = 0
 first_offset (factor ∷ factors) = factor.word.start
 
--- so many fields make a term without dummies; others aren't built yet
-abbrev pub is_built : TermKind → List FieldUse → Bool
-is_built kind.Fermion used = length used == 3
-is_built kind.Scalar used = length used == 4
-
 abbrev pub content_places : TermKind → List FieldUse → FaultPlace → WrittenMonomial → Monomial → List ReadFault
 content_places kind first place written monomial =
-    if not (has_content kind first monomial) then fault (offset_place place (first_offset written.factors)) WrongContent ∷ []
-    else bad_where (not (is_built kind (uses monomial.factors))) (offset_place place (first_offset written.factors)) Unbuilt
+    bad_where (not (has_content kind first monomial)) (offset_place place (first_offset written.factors)) WrongContent
 
 unfoldable pub contents_places : FaultPlace → List WrittenMonomial → Term → List ReadFault
 contents_places place sum term = monomial_wise (content_places term.kind (first_uses term.monomials) place) sum term.monomials

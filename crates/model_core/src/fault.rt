@@ -2,7 +2,7 @@
 ghost use Rattle.std.specs.Prelude.{◌≡◌};
 ghost use Rattle.model_core.specs.Fault.{fault, over, offset_place};
 
-/// The kinds of fault, by their numbers. The list grows with the forms that are read.
+/// The kinds of fault, by their numbers.
 #[derive(Clone, Copy, Debug, PartialEq, Eq)]
 pub enum ReadKind {
     /// The bytes are no TOML document.
@@ -43,8 +43,6 @@ pub enum ReadKind {
     WrongContent = 16,
     /// There are more than a model may have.
     OverLimit = 17,
-    /// The document has a form that is not built yet.
-    Unbuilt = 18,
 }
 
 /// The part of a file that a fault stands in.

@@ -8,7 +8,7 @@ use Rattle.std.proofs.lemmas.List.{length-map}
 use Rattle.model_core.specs.declared.fault.FaultPlace.{FaultPlace}
 use Rattle.model_core.specs.declared.fault.ReadFault.{ReadFault}
 use Rattle.model_core.specs.declared.fault.ReadKind.{ReadKind}
-use Rattle.model_core.specs.declared.fault.ReadKind.TheVariants.{WrongContent, WrongSlots, LabelCount, Unbuilt}
+use Rattle.model_core.specs.declared.fault.ReadKind.TheVariants.{WrongContent, WrongSlots, LabelCount}
 use Rattle.model_core.specs.declared.model.Model.{Model}
 use Rattle.model_core.specs.declared.sum.WrittenMonomial.{WrittenMonomial}
 use Rattle.model_core.specs.declared.term.Monomial.{Monomial}
@@ -22,7 +22,7 @@ use Rattle.model_core.specs.TermText.{tokens}
 use Rattle.model_core.specs.TermGrammar.{Start, left_of, sum_in, sum_at}
 use Rattle.model_core.specs.TermMeaning.{monomial_of}
 use Rattle.model_core.specs.TermRules.{is_monomial, has_monomials, has_small_sizes, has_shape, has_one_content, has_allowed_conjugate, is_term}
-use Rattle.model_core.specs.TermWalk.{tensor_count_places, count_places, monomials_places, join_places, monomial_wise, joins_places, fits_shape, flavour_places, first_offset, is_built, content_places, contents_places, coupling_places}
+use Rattle.model_core.specs.TermWalk.{tensor_count_places, count_places, monomials_places, join_places, monomial_wise, joins_places, fits_shape, flavour_places, first_offset, content_places, contents_places, coupling_places}
 use Rattle.model_core.specs.Valid.{has_valid_parts}
 use Rattle.model_reader.specs.TermValues.{term_from}
 use Rattle.model_reader.proofs.TermLaws.{term_sized}
@@ -84,10 +84,6 @@ shape_fits model flavour place term small none =
     both_hold (has_small_sizes term && have) (have_sizes model term)
     (both_hold (has_small_sizes term) have small (none_bad have (key_place place 5) LabelCount rest.0)) (none_bad (have_sizes model term) (key_place place 5) WrongSlots rest.1)
 
-content_fits : (has built : Bool) (place : FaultPlace) → cond (not has) (fault place WrongContent ∷ []) (bad_where (not built) place Unbuilt) ≡ [] → has ≡ true
-content_fits true built place none = refl
-content_fits false built place none = let never : ⊥ = cc in absurd never
-
 contents_fit : (place : FaultPlace) (meaning : WrittenMonomial → Monomial) (sum : List WrittenMonomial) (term : Term) → term.monomials ≡ map meaning sum
     → contents_places place sum term ≡ [] → has_one_content term ≡ true
 unfolding contents_places
@@ -96,7 +92,7 @@ contents_fit place meaning sum term is none =
     let places = content_places term.kind (first_uses term.monomials) place in
     ap (list_all test) is
     ∙ each_wise places meaning test
-    (λ written fine. content_fits (test (meaning written)) (is_built term.kind (uses (meaning written).factors)) (offset_place place (first_offset written.factors)) fine)
+    (λ written fine. none_bad (test (meaning written)) (offset_place place (first_offset written.factors)) WrongContent fine)
     sum (ap (monomial_wise places sum) (sym is) ∙ none)
 
 allowed : (fermionic added value : Bool) → (added && fermionic) ≡ false → (not fermionic && not value) ≡ false → cond fermionic (not added) value ≡ true

@@ -25,7 +25,6 @@ fn kind_word(kind: ReadKind) -> &'static str {
         ReadKind::LabelCount => "LabelCount",
         ReadKind::WrongContent => "WrongContent",
         ReadKind::OverLimit => "OverLimit",
-        ReadKind::Unbuilt => "Unbuilt",
     }
 }
 

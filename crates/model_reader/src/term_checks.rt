@@ -4,7 +4,7 @@ ghost use Rattle.std.specs.List.{filter, list_all};
 ghost use Rattle.model_core.specs.Valid.{has_valid_parts};
 ghost use Rattle.model_core.specs.Fault.{key_place};
 ghost use Rattle.model_core.specs.Content.{is_fermionic, has_small_directions};
-ghost use Rattle.model_core.specs.TermWalk.{label_places, labels_places, eps_places, all_eps_places, join_places, joins_places, fits_shape, flavour_places, first_offset, is_built, content_places, monomial_wise, contents_places, coupling_places, is_overfull, first_block, overfull_places, block_places};
+ghost use Rattle.model_core.specs.TermWalk.{label_places, labels_places, eps_places, all_eps_places, join_places, joins_places, fits_shape, flavour_places, first_offset, content_places, monomial_wise, contents_places, coupling_places, is_overfull, first_block, overfull_places, block_places};
 ghost use Rattle.model_reader.specs.Tables.{texts};
 ghost use Rattle.model_reader.specs.Parsing.{has_labels_within};
 ghost use Rattle.model_reader.specs.TermSteps.{are_small};
@@ -206,16 +206,6 @@ fn first_offset(factors: &[WrittenFactor]) -> usize
     }
 }
 
-/// Whether a term with these fields is built: one without dummies.
-fn is_built(kind: TermKind, used: &[FieldUse]) -> bool
-    ensures { result ≡ is_built kind used.now }
-{
-    match kind {
-        TermKind::Fermion => used.len() == 3,
-        TermKind::Scalar => used.len() == 4,
-    }
-}
-
 /// Asks that a monomial has fields that a term of this kind may have, and those of the first one.
 fn checked_content(
     alloc: Global,
@@ -227,13 +217,9 @@ fn checked_content(
 ) -> Result<(), ReadError>
     ensures walked { Passes (content_places kind first.now place written.now monomial.now) result }
 {
-    let place = place.offset(first_offset(written.factors.as_slice()));
     if !has_content(alloc, kind, first, monomial)? {
+        let place = place.offset(first_offset(written.factors.as_slice()));
         return refused(place, ReadKind::WrongContent);
-    }
-    let used = uses(alloc, monomial.factors.as_slice())?;
-    if !is_built(kind, used.as_slice()) {
-        return refused(place, ReadKind::Unbuilt);
     }
     Ok(())
 }
@@ -262,8 +248,8 @@ fn checked_each_content(
     }
 }
 
-/// Asks that each monomial has fields that a term of its kind may have, those of the first one (`WrongContent` at its first
-/// factor), and as many as are built (`Unbuilt` there).
+/// Asks that each monomial has fields that a term of its kind may have, and those of the first one (`WrongContent` at its
+/// first factor).
 #[tactic(auto, unfolding(model_core::specs::TermWalk::contents_places))]
 pub fn checked_contents(
     alloc: Global,

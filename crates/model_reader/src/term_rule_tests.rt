@@ -88,16 +88,15 @@ H(a) H~(a) S S + H(a) t(a,b) H~(b) S S => fine
 # They come after the labels of every monomial.
 N S + S S S H(a) => LabelCount term 1 14 0
 S S S S + S S S eps(a,b) => LabelCount term 1 20 0
-# Two fermions without a scalar, and two or three scalars, are not built.
-1/6 S S S => Unbuilt term 1 4 0
-S S => Unbuilt term 1 0 0
-P~ P => Unbuilt term 1 0 0
-N M => Unbuilt term 1 0 0
-- 2 H~(a) H(a) => Unbuilt term 1 4 0
-eps(a,b) H(a) H(b) => Unbuilt term 1 0 0
- L[1] L[2] + L[2] L[1] => Unbuilt term 1 1 0
-# The first monomial's place comes before the contents of the others.
-S S S + S S => Unbuilt term 1 0 0
+# Two fermions without a scalar, and two or three scalars.
+1/6 S S S => fine
+S S => fine
+P~ P => fine
+N M => fine
+- 2 H~(a) H(a) => fine
+L[1] L[2] + L[2] L[1] => fine
+S S S + S S => WrongContent term 1 8 0
+N M + N M S => WrongContent term 1 6 0
 S + S S S => WrongContent term 1 0 0
 N M + H(a) S S S => LabelCount term 1 8 0
 ";
@@ -132,8 +131,9 @@ shape='symmetric',flavour=['i','j'], => P[i] S[j] S S => fine
 hc=true,shape='symmetric',flavour=['i','j'], => L[i] R[j] N => WrongContent term 1 6 0
 value='complex',shape='symmetric',flavour=['i','j'], => T[i] W[j] S S => WrongContent term 1 3 0
 value='complex',hc=true,shape='symmetric',flavour=['i','j'], => T[i] W[j] S S => WrongContent term 1 4 0
-hc=true, => N M => Unbuilt term 1 0 0
-value='complex', => S S S => Unbuilt term 1 0 0
+hc=true, => N M => WrongContent term 1 6 0
+value='complex', => S S S => WrongContent term 1 3 0
+value='complex', => N M => fine
 hc=true, => N M S + N N S => WrongContent term 1 8 0
 shape='matrix',flavour=['i','j'], => N L[i] R[j] + N L[j] R[i] => WrongContent term 1 14 0
 ";
@@ -228,7 +228,7 @@ const KEYS: &str = "
 {coupling='k',text='S S S S'},{x=1} => UnknownKey term 2 0 0
 {coupling='k',text='S S S S'},{coupling='l',text='S S S X'} => UnknownField term 2 6 0
 {coupling='k',hc=true,text='N M S'},{x=1} => WrongContent term 1 6 0
-{coupling='k',text='S S S S'},{coupling='l',text='S S S'},{} => Unbuilt term 2 0 0
+{coupling='k',text='S S S S'},{coupling='l',text='S S S'},{} => MissingKey term 3 1 0
 {coupling='k',text='S S S S'},{coupling='k',text='N M S'} => RepeatedName term 2 1 0
 {coupling='k',text='S S S S'},{coupling='l',text='N M S'},{coupling='k',text=1} => RepeatedName term 3 1 0
 {coupling='k',text='S S S S'},{coupling='l',text='k N M S'} => UnknownField term 2 0 0
@@ -248,7 +248,7 @@ profile=1@name='m'@term=[{x=1}]@table=[{}] => MissingKey table 1 1 0
 profile=1@name='m'@term=[{coupling='k',text='S'}] => UnknownField term 1 0 0
 profile=1@name='m'@term=[{coupling='k',text='eps(a,b)'}] => LabelCount term 1 4 0
 profile=1@name='sqed'@group=[{name='U1',n=1,coupling='g'}]@scalar=[{name='p',charge='1'}]@term=[{coupling='lam',text='p~ q p~ p'}] => UnknownField term 1 3 0
-profile=1@name='phi'@scalar=[{name='S',real=true}]@term=[{coupling='lam',text='1/24 S S S S'},{coupling='h',text='1/6 S S S'},{coupling='m2',text='1/2 S S'}] => Unbuilt term 2 4 0
+profile=1@name='phi'@scalar=[{name='S',real=true}]@term=[{coupling='lam',text='1/24 S S S S'},{coupling='h',text='1/6 S S S'},{coupling='m2',text='1/2 S S'}] => fine
 # A label of SU(4) for `eps`, and one for a table.
 profile=1@name='m'@group=[{name='d',n=4,coupling='g'}]@scalar=[{name='H',reps={d='fund'}}]@term=[{coupling='k',hc=true,text='H(a) H(b) H(c) H(d) eps(d,b,c,a)'}] => fine
 profile=1@name='m'@group=[{name='d',n=4,coupling='g'}]@scalar=[{name='H',reps={d='fund'}}]@term=[{coupling='k',hc=true,text='H(a) H(b) H(c) H~(c) eps(a,b)'}] => WrongSlots term 1 21 0

@@ -394,7 +394,8 @@ complex|12|0| => OverLimit term 0 0 432
 symmetric|12|12| => fine
 # They are counted after the last term.
 matrix|12|0|{} => MissingKey term 13 1 0
-matrix|12|0|{coupling='l',text='X[1] X[1]'} => Unbuilt term 13 0 0
+matrix|12|0|{coupling='l',text='X[1] s1 s1'} => WrongContent term 13 0 0
+matrix|12|0|{coupling='l',text='X[1] X[1]'} => OverLimit term 0 0 433
 complex|12|0|{coupling='l',text='X[1] X[6] s4'} => OverLimit term 13 0 5
 ";
 

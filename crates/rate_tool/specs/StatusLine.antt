@@ -51,7 +51,6 @@ kind_text kind.WrongSlots = codes "WrongSlots"
 kind_text kind.LabelCount = codes "LabelCount"
 kind_text kind.WrongContent = codes "WrongContent"
 kind_text kind.OverLimit = codes "OverLimit"
-kind_text kind.Unbuilt = codes "Unbuilt"
 
 -- the name of a part, in lower case
 abbrev pub part_text : Part → List ℕ

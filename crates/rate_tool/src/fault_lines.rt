@@ -32,7 +32,6 @@ fn kind_name(kind: ReadKind) -> &'static [u8]
         ReadKind::LabelCount => b"LabelCount",
         ReadKind::WrongContent => b"WrongContent",
         ReadKind::OverLimit => b"OverLimit",
-        ReadKind::Unbuilt => b"Unbuilt",
     }
 }
 
