@@ -35,7 +35,7 @@ use Rattle.model_core.specs.Literal.{number_between}
 use Rattle.model_core.specs.TermText.{bytes_at}
 use Rattle.model_core.specs.TermGrammar.{bad_offset, sum_in}
 use Rattle.model_core.specs.TermMeaning.{referent_at, labels_of_monomial, literal_fraction}
-use Rattle.model_core.specs.Factors.{uses, slots_of_field, slots_of_table, labelled_slots, joins_two, joins_one_group, eps_fits}
+use Rattle.model_core.specs.Factors.{slots_of_field, slots_of_table, labelled_slots, joins_two, joins_one_group, eps_fits}
 use Rattle.model_core.specs.Flavour.{monomial_has_flavour, have_sizes}
 use Rattle.model_core.specs.Content.{is_fermionic, first_uses, has_content, is_real, has_mirrored_blocks, first_of_two, term_blocks, block_directions, is_few}
 

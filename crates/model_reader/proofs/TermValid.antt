@@ -13,9 +13,9 @@ use Rattle.model_core.specs.declared.model.Model.{Model}
 use Rattle.model_core.specs.declared.sum.WrittenMonomial.{WrittenMonomial}
 use Rattle.model_core.specs.declared.term.Monomial.{Monomial}
 use Rattle.model_core.specs.declared.term.Term.{Term}
-use Rattle.model_core.specs.Fault.{fault, offset_place, key_place, bad_where, over_limit}
+use Rattle.model_core.specs.Fault.{offset_place, key_place, bad_where, over_limit}
 use Rattle.model_core.specs.Groups.{is_between}
-use Rattle.model_core.specs.Factors.{uses, are_factors, are_joined}
+use Rattle.model_core.specs.Factors.{are_factors, are_joined}
 use Rattle.model_core.specs.Flavour.{monomial_has_flavour, have_sizes}
 use Rattle.model_core.specs.Content.{is_fermionic, first_uses, has_content, has_mirrored_blocks}
 use Rattle.model_core.specs.TermText.{tokens}

@@ -16,7 +16,7 @@ use model_core::{
     Factor, FaultPlace, FieldUse, Group, LabelledSlot, Model, Monomial, ReadKind, Shape, Span,
     SymbolBlock, SymbolBlockList, Term, TermKind, WrittenFactor, WrittenMonomial, block_directions,
     eps_fits, first_overfull, first_uses, has_content, has_mirrored_blocks, have_sizes,
-    joins_one_group, joins_two, labelled_slots, monomials_have_flavour, uses,
+    joins_one_group, joins_two, labelled_slots, monomials_have_flavour,
 };
 use std::alloc::{AllocError, Global};
 
