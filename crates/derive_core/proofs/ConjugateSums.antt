@@ -21,7 +21,7 @@ use Rattle.model_core.proofs.CoordinateLaws.{partner_twice, partner_place, scala
 use Rattle.term_expand.proofs.Legs.{of_three}
 use Rattle.beta_formulas.specs.YukawaBeta.{yukawa_beta, yukawa_beta_at}
 use Rattle.derive_core.specs.BlockBetas.{conjugate_beta, conjugate_beta_at}
-use Rattle.derive_core.specs.SideBetas.{IsConjugateValue}
+use Rattle.quartic_one_loop.specs.Boxes.{IsConjugateValue}
 use Rattle.derive_core.proofs.TensorEntries.{entry_long, value_nonzero}
 
 same_some : {A : Type 0} (x y : A) → Some x ≡ Some y → x ≡ y

@@ -1,11 +1,10 @@
 -- The beta tensors on the sides of blocks, and the values of them that belong to a block.
-use Rattle.std.specs.Prelude.{◌≡◌, ◌==◌, ℕ, Bool, if◌then◌else◌, List, [], ◌∷◌, get_or, slice_get, option_map}
+use Rattle.std.specs.Prelude.{◌==◌, ℕ, Bool, if◌then◌else◌, List, [], ◌∷◌}
 use Rattle.std.specs.List.{flat_map}
-use Rattle.beta_poly.specs.Polynomial.{Polynomial, conj_poly}
+use Rattle.beta_poly.specs.Polynomial.{Polynomial}
 use Rattle.sparse_tensor.specs.declared.values.Value.{Value}
 use Rattle.sparse_tensor.specs.Tensor.{Entries, HasValues}
 use Rattle.model_core.specs.declared.model.Model.{Model}
-use Rattle.model_core.specs.Scalar.{scalar_coordinates, partner}
 use Rattle.term_expand.specs.declared.token.Token.{Token}
 use Rattle.term_expand.specs.Multiples.{entry_on_side}
 use Rattle.span_solver.specs.BlockDirections.{same_name}
@@ -19,13 +18,6 @@ pub record AreSideBetas (model : Model) (sides : SideBetas) : Type 0 where
   pub conjugate_yukawa : HasValues 3 (conjugate_beta_at model) sides.conjugate_yukawa
   pub scalar : HasValues 4 (scalar_side_beta model 0) sides.scalar
   pub conjugate_scalar : HasValues 4 (scalar_side_beta model 1) sides.conjugate_scalar
-
--- the conjugate value of an entry, at the partner of its scalar
-pub record IsConjugateValue (model : Model) (e : List ℕ × Polynomial) (v : Value) : Type 0 where
-  pub place : ℕ
-  pub key : v.key ≡ get_or e.0 0 0 ∷ get_or e.0 1 0 ∷ place ∷ []
-  pub partner_is : slice_get (scalar_coordinates model) place ≡ option_map partner (slice_get (scalar_coordinates model) (get_or e.0 2 0))
-  pub value : v.value ≡ conj_poly e.1
 
 -- an entry on a side where it belongs to the block, or nothing
 abbrev pub where_it_belongs : Bool → ℕ → List ℕ × Polynomial → List Value

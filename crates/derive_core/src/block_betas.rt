@@ -1,9 +1,8 @@
 //! The beta tensors of Yukawa couplings and of scalar couplings on blocks.
-ghost use Rattle.std.specs.Prelude.{◌≡◌, ◌≤◌, ◌<◌, ◌∷◌, ◌++◌, [], suc, map, length, get_or, IfOk, OnOk, IfErr};
+ghost use Rattle.std.specs.Prelude.{◌≡◌, ◌≤◌, ◌<◌, ◌∷◌, ◌++◌, [], suc, map, length, IfOk, OnOk, IfErr};
 ghost use Rattle.sparse_tensor.specs.Operations.{entry, gathered_at};
 ghost use Rattle.sparse_tensor.specs.Refusals.{IsTensorRefusal, IsRefusalOf};
 ghost use Rattle.sparse_tensor.specs.Tensor.{HasValues, rank_of, entries_of};
-ghost use Rattle.model_core.specs.Scalar.{scalar_coordinates};
 ghost use Rattle.model_core.specs.Valid.{IsValid};
 ghost use Rattle.term_expand.specs.Multiples.{entry_on_side};
 ghost use Rattle.span_solver.specs.BlockDirections.{same_name};
@@ -11,12 +10,14 @@ ghost use Rattle.beta_formulas.specs.ScalarBeta.{scalar_beta_at};
 ghost use Rattle.beta_formulas.specs.YukawaBeta.{yukawa_beta_at};
 ghost use Rattle.derive_core.specs.BlockBetas.{IsLegCount, name_at, conjugate_beta_at, scalar_side_beta, block_beta};
 ghost use Rattle.derive_core.specs.Components.{IsComponents};
-ghost use Rattle.derive_core.specs.SideBetas.{AreSideBetas, IsConjugateValue, where_it_belongs, side_values, named_values};
+ghost use Rattle.derive_core.specs.SideBetas.{AreSideBetas, where_it_belongs, side_values, named_values};
 
-use crate::block_names::{Components, name_at, same_name, scalar_side};
+use crate::block_names::{Components, name_at, scalar_side};
 use beta_poly::Poly;
 use frac128::NumberList;
-use model_core::{Model, partner};
+use model_core::Model;
+use quartic_one_loop::conjugate_value;
+use span_solver::same_name;
 use sparse_tensor::{Sparse, TensorFault, Value, ValueList};
 use std::alloc::{AllocError, Global};
 use term_expand::Token;
@@ -33,28 +34,6 @@ pub struct SideBetas {
     pub scalar: Sparse,
     /// Those that are on side 1.
     pub conjugate_scalar: Sparse,
-}
-
-/// What an entry gives the conjugate tensor: the conjugate value, at the partner of the scalar.
-fn conjugate_value(
-    alloc: Global,
-    model: &Model,
-    key: &[u32],
-    value: &Poly,
-) -> Result<Value, AllocError>
-    requires valid { IsValid model.now }
-    requires key { length key.now ≡ 3 }
-    requires inside { get_or key.now 2 0 < length (scalar_coordinates model.now) }
-    ensures { IfOk result (IsConjugateValue model.now (key.now, value.now)) }
-{
-    let mut places = NumberList::new(alloc);
-    places.push(key[0])?;
-    places.push(key[1])?;
-    places.push(partner(model, key[2]))?;
-    Ok(Value {
-        key: places,
-        value: value.conj(alloc)?,
-    })
 }
 
 /// The conjugate of the Yukawa beta tensor.

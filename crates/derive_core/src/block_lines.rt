@@ -14,10 +14,10 @@ ghost use Rattle.derive_core.specs.Lines.{named_leg, token_leg, block_legs, key_
 ghost use Rattle.derive_core.specs.Works.{are_places, are_scalar_places, HasLegs};
 
 use crate::betas::{Line, LineList, TokenNames};
-use crate::block_names::same_name;
 use crate::outcomes::{Outcome, Told};
 use gauge_check::{Component, component_at};
 use model_core::{Field, Leg, Model, Slots, TermKind, fermion_count, scalar_count};
+use span_solver::same_name;
 use std::alloc::{AllocError, Global};
 use term_expand::{Direction, Token};
 

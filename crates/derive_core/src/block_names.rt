@@ -5,7 +5,6 @@ ghost use Rattle.std.specs.Ordering.{};
 ghost use Rattle.model_core.specs.Content.{is_before, is_real};
 ghost use Rattle.model_core.specs.Valid.{IsValid};
 ghost use Rattle.term_expand.specs.Tokens.{dummy_token};
-ghost use Rattle.span_solver.specs.BlockDirections.{same_token, same_name};
 ghost use Rattle.derive_core.specs.BlockBetas.{order_of_token, name_cmp, inserted, component_token, partner_token, fermion_token, scalar_token, scalar_content, scalar_side, name_at};
 ghost use Rattle.derive_core.specs.Components.{IsComponents};
 
@@ -31,41 +30,6 @@ pub fn components_of(alloc: Global, model: &Model) -> Result<Components, AllocEr
         fermions: fermion_list(alloc, model)?,
         scalars: scalar_list(alloc, model)?,
     })
-}
-
-/// Whether two tokens are the same.
-fn same_token(a: &Token, b: &Token) -> bool
-    ensures { result ≡ same_token a.now b.now }
-{
-    if a.fermion != b.fermion {
-        return false;
-    }
-    if a.field != b.field {
-        return false;
-    }
-    if a.conj != b.conj {
-        return false;
-    }
-    if a.generation != b.generation {
-        return false;
-    }
-    a.dummy == b.dummy
-}
-
-/// Whether two names are the same.
-pub fn same_name(a: &[Token], b: &[Token]) -> bool
-    ensures { result ≡ same_name a.now b.now }
-{
-    match a {
-        [] => match b {
-            [] => true,
-            [_, ..] => false,
-        },
-        [first, a @ ..] => match b {
-            [] => false,
-            [second, b @ ..] => same_token(first, second) && same_name(a, b),
-        },
-    }
 }
 
 /// The order of tokens: fermions before scalars, and the dummy last; then by field, then a field before its conjugate, then

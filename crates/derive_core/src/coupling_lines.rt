@@ -8,10 +8,9 @@ ghost use Rattle.derive_core.specs.LineSteps.{found_has_line, found_line};
 ghost use Rattle.derive_core.specs.Lines.{outcome_in, line_of, coordinate_line, coupling_lines};
 
 use crate::betas::{Line, LineList};
-use crate::block_names::same_name;
 use crate::outcomes::{Outcome, Told};
 use beta_poly::Poly;
-use span_solver::PolyList;
+use span_solver::{PolyList, same_name};
 use std::alloc::{AllocError, Global};
 use term_expand::{Direction, Token};
 

@@ -19,7 +19,7 @@ ghost use Rattle.derive_core.specs.Works.{is_at, IsSolverAmong, IsEntryKey, IsWo
 
 use crate::accept::Accepted;
 use crate::block_betas::{SideBetas, block_beta, side_betas};
-use crate::block_names::{Components, components_of, copied_name, name_at, name_cmp, same_name};
+use crate::block_names::{Components, components_of, copied_name, name_at, name_cmp};
 use crate::fault::DeriveFault;
 use crate::survey::Solver;
 use beta_poly::Poly;
@@ -27,7 +27,7 @@ use contraction_workers::Gate;
 use frac128::{ItemList, NumberList};
 use model_core::Model;
 use quartic_one_loop::quartic_betas;
-use span_solver::{Block, PolyList, Solved};
+use span_solver::{Block, PolyList, Solved, same_name};
 use sparse_tensor::{Sparse, TensorFault};
 use std::alloc::{AllocError, Global};
 use std::thread::Threads;

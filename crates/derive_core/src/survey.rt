@@ -9,10 +9,10 @@ ghost use Rattle.span_solver.specs.BlockDirections.{same_name};
 ghost use Rattle.derive_core.specs.Surveys.{IsSurvey};
 ghost use Rattle.derive_core.specs.SurveySteps.{earliest, HasName, Covers};
 
-use crate::block_names::{copied_name, same_name};
+use crate::block_names::copied_name;
 use frac128::ItemList;
 use model_core::Model;
-use span_solver::{Block, SpanFault};
+use span_solver::{Block, SpanFault, same_name};
 use sparse_tensor::TensorFault;
 use std::alloc::{AllocError, Global};
 use term_expand::{BlockName, DirectionList};

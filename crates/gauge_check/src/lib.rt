@@ -15,6 +15,7 @@ pub use check::check_terms;
 pub use component::{Component, component_at};
 pub use fault::{CheckError, TermFault};
 pub use links::generator_links;
+pub use parts::push_entries;
 
 #[cfg(test)]
 mod tests;

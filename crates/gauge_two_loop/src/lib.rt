@@ -14,5 +14,6 @@ mod yukawa;
 
 pub use casimirs::casimir_of;
 pub use gauge::gauge_one;
+pub use pieces::gauge_symbol;
 pub use two_loop::{PolyList, gauge_two};
 pub use yukawa::{FracList, casimirs_of};

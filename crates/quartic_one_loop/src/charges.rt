@@ -7,20 +7,19 @@ ghost use Rattle.beta_poly.specs.Polynomial.{mul_poly};
 ghost use Rattle.sparse_tensor.specs.Refusals.{IsTensorRefusal};
 ghost use Rattle.sparse_tensor.specs.Tensor.{entries_of, rank_of};
 ghost use Rattle.su_reps.specs.Operators.{fraction};
-ghost use Rattle.model_core.specs.GaugeTwoLoop.{gauge_symbol};
 ghost use Rattle.model_core.specs.Scalar.{scalar_coordinates};
 ghost use Rattle.model_core.specs.Valid.{IsValid};
 ghost use Rattle.quartic_one_loop.specs.FourLegs.{AddsFour, AreWithin, IsQuartic};
 ghost use Rattle.quartic_one_loop.specs.ChargeParts.{StartsBelow, charge_at, charge_factor, charged_values, coordinate_casimir, group_share};
 ghost use Rattle.quartic_one_loop.specs.OrderShares.{charge_share};
 
-use crate::copies::copied;
-use beta_poly::{Mono, Poly, Symbol};
+use beta_poly::{Mono, Poly};
 use frac128::Frac;
-use gauge_two_loop::{FracList, casimir_of};
+use gauge_two_loop::{FracList, casimir_of, gauge_symbol};
 use model_core::{Group, Model, scalar_list};
 use sparse_tensor::{Sparse, TensorFault, Value, ValueList};
 use std::alloc::{AllocError, Global};
+use term_expand::copied;
 
 /// The Casimirs of all scalar coordinates under the group at a place: 0 for the dummy, which has no charge.
 fn scalar_casimirs(
@@ -43,18 +42,6 @@ fn scalar_casimirs(
     }
     casimirs.push(Frac::zero())?;
     Ok(casimirs)
-}
-
-/// The gauge coupling of the group at a place.
-fn gauge_symbol(place: usize) -> Symbol
-    requires { place < 2 ^ 16 }
-    ensures { result ≡ gauge_symbol place }
-{
-    Symbol {
-        id: place as u16,
-        real: true,
-        conj: false,
-    }
 }
 
 /// Minus one half.

@@ -13,7 +13,7 @@ use sparse_tensor::{Sparse, TensorFault, Value, ValueList};
 use std::alloc::{AllocError, Global};
 
 /// What an entry gives the conjugate tensor: the conjugate value, at the partner of the scalar.
-fn conjugate_value(
+pub fn conjugate_value(
     alloc: Global,
     model: &Model,
     key: &[u32],

@@ -4,10 +4,10 @@ ghost use Rattle.sparse_tensor.specs.Refusals.{IsTensorRefusal};
 ghost use Rattle.sparse_tensor.specs.Tensor.{HasValues, value, rank_of};
 ghost use Rattle.quartic_one_loop.specs.FewDummies.{formed, formed_at};
 
-use crate::copies::copied;
 use beta_poly::Poly;
 use sparse_tensor::{Sparse, TensorFault, Value, ValueList};
 use std::alloc::{AllocError, Global};
+use term_expand::copied;
 
 /// How many places of a key are the given one.
 fn count_of(key: &[u32], place: u32) -> usize

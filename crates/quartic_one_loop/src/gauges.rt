@@ -3,7 +3,7 @@ ghost use Rattle.std.specs.Prelude.{◌≡◌, ◌<◌, ◌^◌, IfOk, OnOk, IfE
 ghost use Rattle.beta_poly.specs.Exponents.{AllWithin};
 ghost use Rattle.sparse_tensor.specs.Refusals.{IsTensorRefusal};
 ghost use Rattle.su_reps.specs.Operators.{fraction};
-ghost use Rattle.model_core.specs.GaugeTwoLoop.{gauge_power, gauge_symbol};
+ghost use Rattle.model_core.specs.GaugeTwoLoop.{gauge_power};
 ghost use Rattle.model_core.specs.Generators.{generators};
 ghost use Rattle.model_core.specs.Scalar.{scalar_coordinates};
 ghost use Rattle.model_core.specs.Valid.{IsValid};
@@ -16,9 +16,10 @@ ghost use Rattle.quartic_one_loop.specs.OrderShares.{gauge_share};
 
 use crate::pairs::{GeneratorMatrix, matrix_of, pair_matrix, partners_of};
 use crate::pushes::push_multiple;
-use beta_poly::{Mono, Poly, Symbol};
+use beta_poly::{Mono, Poly};
 use frac128::{Frac, ItemList};
 use gauge_check::{ActionList, Legs, actions_of, legs_of};
+use gauge_two_loop::gauge_symbol;
 use model_core::{Generator, Group, Model};
 use sparse_tensor::{LinkList, Sparse, TensorFault, ValueList};
 use std::alloc::{AllocError, Global};
@@ -50,24 +51,12 @@ fn weight_of(group: &Group) -> Frac
     Frac::new(1, 2).unwrap()
 }
 
-/// The gauge coupling of the group at a place.
-fn gauge_symbol(place: u32) -> Symbol
-    requires { place < 2 ^ 16 }
-    ensures { result ≡ gauge_symbol place }
-{
-    Symbol {
-        id: place as u16,
-        real: true,
-        conj: false,
-    }
-}
-
 /// The square of the coupling of the group at a place.
 fn squared_coupling(alloc: Global, place: u32) -> Result<Poly, AllocError>
     requires { place < 2 ^ 16 }
     ensures { IfOk result (λ square. square ≡ gauge_power place 2) }
 {
-    let square = Mono::power(alloc, gauge_symbol(place), 2)?;
+    let square = Mono::power(alloc, gauge_symbol(place as usize), 2)?;
     Poly::term(alloc, &square, Frac::one())
 }
 

@@ -7,7 +7,6 @@ mod box_tests;
 mod boxes;
 mod charges;
 mod conjugates;
-mod copies;
 mod formed;
 #[cfg(test)]
 mod gauge_tests;
@@ -24,4 +23,5 @@ mod pushes;
 mod slices;
 
 pub use betas::quartic_betas;
+pub use conjugates::conjugate_value;
 pub use laws::beta_functions_are_symmetric;

@@ -1,26 +1,25 @@
 //! Pairs of generators on the scalar coordinates.
-ghost use Rattle.std.specs.Prelude.{◌≡◌, ◌<◌, ◌+◌, ◌==◌, ◌++◌, false, length, map, IfOk, OnOk, IfErr};
+ghost use Rattle.std.specs.Prelude.{◌≡◌, ◌<◌, ◌+◌, ◌==◌, false, length, IfOk, OnOk, IfErr};
 ghost use Rattle.frac128.specs.Rational.{one_ℚ};
 ghost use Rattle.beta_poly.specs.Polynomial.{constant};
 ghost use Rattle.sparse_tensor.specs.Refusals.{IsTensorRefusal};
-ghost use Rattle.sparse_tensor.specs.Tensor.{entries_of, rank_of};
+ghost use Rattle.sparse_tensor.specs.Tensor.{rank_of};
 ghost use Rattle.model_core.specs.declared.generator.Generator.{Generator};
 ghost use Rattle.model_core.specs.declared.model.Model.{Model};
 ghost use Rattle.model_core.specs.Scalar.{scalar_coordinates};
 ghost use Rattle.model_core.specs.Valid.{IsValid};
 ghost use Rattle.term_expand.specs.Projectors.{AreProjectors};
-ghost use Rattle.gauge_check.specs.Actions.{AreLegs, IsGenerator, value_of};
+ghost use Rattle.gauge_check.specs.Actions.{AreLegs, IsGenerator};
 ghost use Rattle.beta_formulas.specs.ScalarBeta.{pair_entry};
 ghost use Rattle.quartic_one_loop.specs.GaugePairs.{ArePartnerValues, HasNumbers, IsGeneratorMatrix, IsPartners, NumberMatrix, product_at, sum_at};
 
-use crate::copies::copied;
 use beta_poly::Poly;
 use frac128::Frac;
-use gauge_check::{Legs, generator_links};
+use gauge_check::{Legs, generator_links, push_entries};
 use model_core::{Generator, Model, partner, scalar_count};
 use sparse_tensor::{LinkList, Sparse, TensorFault, Value, ValueList};
 use std::alloc::{AllocError, Global};
-use term_expand::no_symbols;
+use term_expand::{copied, no_symbols};
 
 /// A generator X on the scalar coordinates.
 #[derive(Drop)]
@@ -108,20 +107,6 @@ fn product(
 {
     let both = left.at_partners.project(alloc, 1, &right.links)?;
     both.project(alloc, 1, projectors)
-}
-
-/// Adds the entries of a tensor.
-fn push_entries(alloc: Global, values: &mut ValueList, tensor: &Sparse) -> Result<(), AllocError>
-    ensures { OnOk result (values.new ≡ values.old ++ map value_of (entries_of tensor.now)) }
-{
-    for place in 0..tensor.len() {
-        let (key, number) = tensor.item(place);
-        values.push(Value {
-            key: copied(alloc, key)?,
-            value: number.copy(alloc)?,
-        })?;
-    }
-    Ok(())
 }
 
 /// The sum of two matrices of numbers.

@@ -8,11 +8,11 @@ ghost use Rattle.model_core.specs.declared.model.Model.{Model};
 ghost use Rattle.beta_formulas.specs.ScalarBeta.{FourLegs};
 ghost use Rattle.quartic_one_loop.specs.FourLegs.{AddsFour, AreWithin, four_at};
 
-use crate::copies::copied;
 use beta_poly::Poly;
 use frac128::Frac;
 use sparse_tensor::{Sparse, TensorFault, Value, ValueList};
 use std::alloc::Global;
+use term_expand::copied;
 
 /// Adds a number times a tensor.
 pub fn push_scaled(

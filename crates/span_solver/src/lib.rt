@@ -19,4 +19,5 @@ mod systems;
 pub use block::Block;
 pub use fault::SpanFault;
 pub use laws::coordinates_are_unique;
+pub use names::same_name;
 pub use solved::{PolyList, Solved};

@@ -29,7 +29,7 @@ fn same_token(a: &Token, b: &Token) -> bool
 }
 
 /// Whether two names are the same.
-fn same_name(a: &[Token], b: &[Token]) -> bool
+pub fn same_name(a: &[Token], b: &[Token]) -> bool
     ensures { result ≡ same_name a.now b.now }
 {
     match a {

@@ -6,14 +6,13 @@ ghost use Rattle.beta_poly.specs.Exponents.{AllWithin};
 ghost use Rattle.beta_poly.specs.Polynomial.{mul_poly};
 ghost use Rattle.sparse_tensor.specs.Refusals.{IsTensorRefusal};
 ghost use Rattle.sparse_tensor.specs.Tensor.{entries_of, rank_of};
-ghost use Rattle.model_core.specs.GaugeTwoLoop.{gauge_symbol};
 ghost use Rattle.model_core.specs.Valid.{IsValid};
 ghost use Rattle.yukawa_one_loop.specs.Matrices.{AreWithin};
 ghost use Rattle.yukawa_one_loop.specs.Parts.{IsInside, gauge_factor, gauge_line, weight_at, weighted_values};
 
-use beta_poly::{Mono, Poly, Symbol};
+use beta_poly::{Mono, Poly};
 use frac128::{Frac, ItemList};
-use gauge_two_loop::{FracList, casimirs_of};
+use gauge_two_loop::{FracList, casimirs_of, gauge_symbol};
 use model_core::{Group, Model};
 use sparse_tensor::{Sparse, TensorFault, Value, ValueList};
 use std::alloc::{AllocError, Global};
@@ -30,18 +29,6 @@ pub struct GaugeLine {
 
 /// What the groups of a model give, in their order.
 pub type GaugeList = ItemList<GaugeLine>;
-
-/// The gauge coupling of the group at a place.
-fn gauge_symbol(place: usize) -> Symbol
-    requires { place < 2 ^ 16 }
-    ensures { result ≡ gauge_symbol place }
-{
-    Symbol {
-        id: place as u16,
-        real: true,
-        conj: false,
-    }
-}
 
 /// Minus three.
 fn minus_three() -> Frac

@@ -2,7 +2,6 @@
 #![tactic(auto)]
 
 mod betas;
-mod copies;
 mod gauges;
 mod lines;
 mod matrices;

@@ -10,12 +10,12 @@ ghost use Rattle.beta_formulas.specs.YukawaBeta.{yukawa as plain_matrix, conjuga
 ghost use Rattle.yukawa_one_loop.specs.Entries.{sliced, slice_at};
 ghost use Rattle.yukawa_one_loop.specs.Matrices.{AreMatrices, HaveMatrices, IsLinear};
 
-use crate::copies::copied;
 use beta_poly::Poly;
 use frac128::ItemList;
 use model_core::{Model, partner, scalar_count};
 use sparse_tensor::{Sparse, TensorFault, Value, ValueList};
 use std::alloc::{AllocError, Global};
+use term_expand::copied;
 
 /// Matrices over the fermion components, as tensors of two legs.
 pub type MatrixList = ItemList<Sparse>;

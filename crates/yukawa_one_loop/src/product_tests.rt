@@ -5,7 +5,6 @@ ghost use Rattle.beta_poly.specs.Exponents.{AllWithin};
 ghost use Rattle.sparse_tensor.specs.Tensor.{rank_of};
 ghost use Rattle.yukawa_one_loop.specs.Matrices.{AreWithin};
 
-use crate::copies::copied;
 use crate::matrices::MatrixList;
 use crate::products::{identity_links, push_scaled, times, trace};
 use crate::stacks::stack;
@@ -14,6 +13,7 @@ use frac128::Frac;
 use sparse_tensor::{Sparse, Value, ValueList};
 use std::alloc::{AllocError, Global};
 use std::process::Abort;
+use term_expand::copied;
 
 /// A number times a symbol.
 fn multiple(alloc: Global, number: i64, id: u16) -> Result<Poly, AllocError>

@@ -9,11 +9,11 @@ ghost use Rattle.model_core.specs.Component.{fermion_components};
 ghost use Rattle.beta_formulas.specs.YukawaBeta.{Matrix, times, trace};
 ghost use Rattle.yukawa_one_loop.specs.Matrices.{AddsMatrix, AreWithin, IsMatrix, identity_links};
 
-use crate::copies::copied;
 use beta_poly::Poly;
 use frac128::Frac;
 use sparse_tensor::{Link, LinkList, Sparse, TensorFault, Value, ValueList};
 use std::alloc::{AllocError, Global};
+use term_expand::copied;
 
 /// The links from each of the first places to itself.
 pub fn identity_links(alloc: Global, count: u32) -> Result<LinkList, AllocError>

@@ -5,11 +5,11 @@ ghost use Rattle.sparse_tensor.specs.Refusals.{IsTensorRefusal};
 ghost use Rattle.sparse_tensor.specs.Tensor.{HasValues, entries_of, rank_of};
 ghost use Rattle.yukawa_one_loop.specs.Entries.{entry_behind, stacked_at};
 
-use crate::copies::copied;
 use crate::matrices::MatrixList;
 use frac128::NumberList;
 use sparse_tensor::{Sparse, TensorFault, Value, ValueList};
 use std::alloc::{AllocError, Global};
+use term_expand::copied;
 
 /// A place of a list as a place of a key; a list that has more places than keys can tell counts as too large for the memory.
 fn place_of(place: usize) -> Result<u32, TensorFault>
