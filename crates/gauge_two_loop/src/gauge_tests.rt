@@ -9,10 +9,12 @@ use std::process::Abort;
 use std::test::Fail;
 use su_reps::Rep;
 
+/// The name that a text is.
 pub fn name_of(rt: &impl Abort, text: &str) -> Name {
     Name::new(text.as_bytes()).ok().expect(rt, "a name")
 }
 
+/// A group SU(n), or a U(1) where n is 1, with the name of its coupling.
 pub fn group_of(rt: &impl Abort, name: &str, n: u32, coupling: &str) -> Group {
     let coupling = name_of(rt, coupling);
     Group {
