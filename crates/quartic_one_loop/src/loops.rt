@@ -95,8 +95,8 @@ pub fn push_loops(
     ensures refused { IfErr result IsTensorRefusal }
 {
     let links = partner_links(alloc, model)?;
-    for e in 0..scalar_count(model) - 1 {
-        push_loop(alloc, model, quartic, &links, values, e)?;
+    for place in 0..scalar_count(model) - 1 {
+        push_loop(alloc, model, quartic, &links, values, place)?;
     }
     Ok(())
 }
