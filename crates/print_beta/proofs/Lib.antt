@@ -1,0 +1,2 @@
+pub mod TermTexts
+mod CsvRows
