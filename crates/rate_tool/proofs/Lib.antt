@@ -2,4 +2,3 @@ pub mod StreamLaws
 pub mod Pieces
 pub mod Numbers
 pub mod RunLaws
-pub mod TermTexts

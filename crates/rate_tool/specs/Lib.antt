@@ -2,8 +2,7 @@ pub mod Stream
 pub mod Memory
 pub mod Register
 pub mod Words
-pub mod ComponentText
-pub mod Text
+pub mod Lines
 pub mod StatusLine
 pub mod Run
 pub mod Steps

@@ -14,8 +14,8 @@ use Rattle.gauge_check.specs.declared.fault.TermFault.TheVariants.{NotInvariant,
 use Rattle.anomaly_check.specs.declared.anomaly.AnomalyKind.{AnomalyKind}
 use Rattle.anomaly_check.specs.declared.anomaly.AnomalyKind.TheVariants as anomaly
 use Rattle.anomaly_check.specs.declared.anomaly.Anomaly.{Anomaly}
-use Rattle.rate_tool.specs.ComponentText.{component_text}
-use Rattle.rate_tool.specs.Text.{entry_text}
+use Rattle.print_beta.specs.ComponentText.{component_text}
+use Rattle.print_beta.specs.Text.{entry_text}
 use Rattle.rate_tool.specs.declared.status.Status.{Status}
 use Rattle.rate_tool.specs.declared.status.Status.TheVariants as status
 

@@ -1,12 +1,14 @@
 -- Which lists of words are commands.
-use Rattle.std.specs.Prelude.{ℕ, ◌≤◌, nat_le, ◌&&◌, if◌then◌else◌, ⊤, List, [], ◌∷◌, map, Option, Some, None, option_map, option_and_then, codes, decimal}
+use Rattle.std.specs.Prelude.{ℕ, ◌≤◌, nat_le, ◌&&◌, if◌then◌else◌, ⊤, Bool, true, false, List, [], ◌∷◌, map, Option, Some, None, option_map, option_and_then, codes, decimal}
 use Rattle.std.specs.Str.{bytes_eq}
 use Rattle.std.specs.Str.Parse.{digits_value}
 use Rattle.std.specs.Rc.{rc_str_bytes}
 use Rattle.std.specs.declared.rc.RcStr.{RcStr}
 use Rattle.std.specs.declared.alloc.Global.{Global}
+use Rattle.model_core.specs.declared.format.Format.{Format}
+use Rattle.model_core.specs.declared.format.Format.TheVariants.{Text, Latex, Csv}
 use Rattle.rate_tool.specs.declared.words.Command.{Command}
-use Rattle.rate_tool.specs.declared.words.Command.TheVariants.{Derive, Check}
+use Rattle.rate_tool.specs.declared.words.Command.TheVariants.{Derive, Check, Demo}
 
 -- the texts of words
 abbrev pub texts : List (RcStr Global) → List (List ℕ)
@@ -24,22 +26,37 @@ within low high n = if nat_le low n && nat_le n high then Some n else None
 abbrev pub number_in : ℕ → ℕ → List ℕ → Option ℕ
 number_in low high word = option_and_then (within low high) (number_of word)
 
--- `derive LOOPS text WORKERS`, with 1 or 2 loops and 1 to 64 workers
-abbrev pub derive_with : List ℕ → ℕ → Option Command
-derive_with workers loops = option_map (λ n. Derive loops n) (number_in 1 64 workers)
+-- `text`, `latex` or `csv`
+abbrev pub format_of : List ℕ → Option Format
+format_of word =
+    if bytes_eq word (codes "text") then Some Text
+    else if bytes_eq word (codes "latex") then Some Latex
+    else if bytes_eq word (codes "csv") then Some Csv
+    else None
+
+-- `derive LOOPS FORMAT WORKERS`, with 1 or 2 loops and 1 to 64 workers
+abbrev pub derive_with : ℕ → ℕ → Format → Command
+derive_with loops workers format = Derive loops format workers
+
+abbrev pub derive_in : List ℕ → List ℕ → ℕ → Option Command
+derive_in format workers loops = option_and_then (λ n. option_map (derive_with loops n) (format_of format)) (number_in 1 64 workers)
 
 abbrev pub derive_of : List ℕ → List ℕ → List ℕ → List ℕ → Option Command
 derive_of name loops format workers =
-    if bytes_eq name (codes "derive") && bytes_eq format (codes "text") then option_and_then (derive_with workers) (number_in 1 2 loops)
-    else None
+    if bytes_eq name (codes "derive") then option_and_then (derive_in format workers) (number_in 1 2 loops) else None
 
 -- `check`
 abbrev pub check_of : List ℕ → Option Command
 check_of name = if bytes_eq name (codes "check") then Some Check else None
 
+-- `demo SEED`, with a seed of 64 bits
+abbrev pub demo_of : List ℕ → List ℕ → Option Command
+demo_of name seed = if bytes_eq name (codes "demo") then option_map Demo (number_in 0 18446744073709551615 seed) else None
+
 -- the command that words are
 abbrev pub command_of : List (List ℕ) → Option Command
 command_of (name ∷ []) = check_of name
+command_of (name ∷ seed ∷ []) = demo_of name seed
 command_of (name ∷ loops ∷ format ∷ workers ∷ []) = derive_of name loops format workers
 command_of _ = None
 
@@ -51,5 +68,10 @@ pub record AreWithin (loops workers : ℕ) : Type 0 where
   pub most_workers : workers ≤ 64
 
 abbrev pub HasNumbers : Command → Type 0
-HasNumbers (Derive loops workers) = AreWithin loops workers
-HasNumbers Check = ⊤
+HasNumbers (Derive loops format workers) = AreWithin loops workers
+HasNumbers _ = ⊤
+
+-- whether a command reads the source
+abbrev pub reads_source : Command → Bool
+reads_source (Demo seed) = false
+reads_source _ = true

@@ -1,13 +1,13 @@
 //! The lines of refusals.
 ghost use Rattle.std.specs.Prelude.{◌≡◌, ◌+◌, ◌≤◌, ◌++◌, length};
 ghost use Rattle.rate_tool.specs.StatusLine.{fault_text, term_text, anomaly_text, overflow_text, numbers_text, head_text, generator_text, change_text, coupling_text, kind_text, part_text, anomaly_kind_text};
-ghost use Rattle.rate_tool.specs.Text.{entry_text};
+ghost use Rattle.print_beta.specs.Text.{entry_text};
 
-use crate::line_text::{LineText, push_component, push_fraction, push_number};
 use anomaly_check::{Anomaly, AnomalyKind};
 use frac128::{Frac, Overflow};
 use gauge_check::{Component, TermFault};
 use model_core::{Name, Part, ReadFault, ReadKind};
+use print_beta::{LineText, push_component, push_fraction, push_number};
 
 /// The name of a kind.
 fn kind_name(kind: ReadKind) -> &'static [u8]

@@ -4,12 +4,12 @@ ghost use Rattle.rate_tool.specs.Stream.{Writes};
 ghost use Rattle.rate_tool.specs.StatusLine.{code_of, status_text};
 
 use crate::fault_lines::{anomaly_line, fault_line, overflow_line, term_line};
-use crate::line_text::{LineText, short_line};
 use crate::stream::{Failed, Sink, write_all};
 use anomaly_check::Anomaly;
 use frac128::Overflow;
 use gauge_check::TermFault;
 use model_core::ReadFault;
+use print_beta::{LineText, short_line};
 
 /// How a run ended.
 #[derive(Drop)]

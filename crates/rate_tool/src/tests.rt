@@ -7,6 +7,7 @@ use crate::status::Status;
 use crate::stream::{Sink, Source, write_all};
 use crate::streams::{Reading, Writing};
 use contraction_workers::NoGate;
+use demo_models::demo;
 use frac128::{ByteList, FailList, Frac, Overflow};
 use std::alloc::{AllocError, Global};
 use std::process::Abort;
@@ -96,7 +97,7 @@ fn check<R: Threads + Sync + Abort>(
 
 #[test]
 fn words_have_their_answers(rt: HostRuntime) -> Result<(), AllocError> {
-    let rows: [(&[&str], u8, &[u8], &[u8]); 13] = [
+    let rows: [(&[&str], u8, &[u8], &[u8]); 20] = [
         (DERIVE, 0, TEXT, b""),
         (CHECK, 0, b"accepted ym\n", b""),
         (&["check", "ym"], 2, b"", b"usage\n"),
@@ -115,10 +116,71 @@ fn words_have_their_answers(rt: HostRuntime) -> Result<(), AllocError> {
         (&["derive", "01", "text", "1"], 2, b"", b"usage\n"),
         (&["derive", "1", "text", "01"], 2, b"", b"usage\n"),
         (&["show", "ym", "0"], 2, b"", b"usage\n"),
+        (&["derive", "1", "CSV", "1"], 2, b"", b"usage\n"),
+        (&["derive", "1", "text "], 2, b"", b"usage\n"),
+        // A demo doesn't look at the file.
+        (
+            &["demo", "0"],
+            0,
+            b"demo 0 generations 1 betas 11 open 0 generated 0 monomials 55\n",
+            b"",
+        ),
+        (
+            &["demo", "18446744073709551612"],
+            0,
+            b"demo 18446744073709551612 generations 1 betas 11 open 0 generated 0 monomials 55\n",
+            b"",
+        ),
+        (&["demo", "18446744073709551616"], 2, b"", b"usage\n"),
+        (&["demo", "00"], 2, b"", b"usage\n"),
+        (&["demo"], 2, b"", b"usage\n"),
     ];
     for (words, code, text, line) in rows {
         check(&rt, rt.alloc(), words, FILE, code, text, line)?;
     }
+    Ok(())
+}
+
+/// The file of a U(1) and a Dirac fermion.
+const QED: &[u8] =
+    b"profile = 1\nname = \"QED\"\ngroup = [{name=\"U1\", n=1, coupling=\"g\"}]\nfermion = [{name=\"e\", charge=\"-1\"}, {name=\"ec\", charge=1}]\n";
+
+#[test]
+fn forms_have_their_bytes(rt: HostRuntime) -> Result<(), AllocError> {
+    let rows: [(&str, &[u8]); 3] = [
+        (
+            "text",
+            b"model QED\nloops 2\nbeta1 g = 4/3*g^3\nbeta2 g = 4*g^5\n",
+        ),
+        (
+            "latex",
+            b"% model QED\n% loops 2\n\\beta^{(1)}_{g} = \\frac{4}{3} {g}^{3} \\\\\n\\beta^{(2)}_{g} = 4 {g}^{5} \\\\\n",
+        ),
+        (
+            "csv",
+            b"kind,target,loops,at,num,den,monomial\nbeta,g,1,,4,3,g^3\nbeta,g,2,,4,1,g^5\n",
+        ),
+    ];
+    for (form, text) in rows {
+        let words = ["derive", "2", form, "1"];
+        check(&rt, rt.alloc(), &words, QED, 0, text, b"")?;
+    }
+    Ok(())
+}
+
+/// The beta function of an entry of the matrix of up quarks, in the Standard Model with three generations.
+const YU12: &str =
+    "beta1 Yu[1,2] = -17/12*g1^2*Yu[1,2] - 9/4*g2^2*Yu[1,2] - 8*g3^2*Yu[1,2] + 9/2*Yu[1,1]*conj(Yu[1,1])*Yu[1,2] + 3/2*Yu[1,1]*conj(Yu[2,1])*Yu[2,2] + 3/2*Yu[1,1]*conj(Yu[3,1])*Yu[3,2] + 9/2*Yu[1,2]^2*conj(Yu[1,2]) + 9/2*Yu[1,2]*Yu[1,3]*conj(Yu[1,3]) + 3*Yu[1,2]*Yu[2,1]*conj(Yu[2,1]) + 9/2*Yu[1,2]*Yu[2,2]*conj(Yu[2,2]) + 3*Yu[1,2]*Yu[2,3]*conj(Yu[2,3]) + 3*Yu[1,2]*Yu[3,1]*conj(Yu[3,1]) + 9/2*Yu[1,2]*Yu[3,2]*conj(Yu[3,2]) + 3*Yu[1,2]*Yu[3,3]*conj(Yu[3,3]) + 3/2*Yu[1,2]*Yd[1,1]*conj(Yd[1,1]) + 3/2*Yu[1,2]*Yd[1,2]*conj(Yd[1,2]) + 3/2*Yu[1,2]*Yd[1,3]*conj(Yd[1,3]) + 3*Yu[1,2]*Yd[2,1]*conj(Yd[2,1]) + 3*Yu[1,2]*Yd[2,2]*conj(Yd[2,2]) + 3*Yu[1,2]*Yd[2,3]*conj(Yd[2,3]) + 3*Yu[1,2]*Yd[3,1]*conj(Yd[3,1]) + 3*Yu[1,2]*Yd[3,2]*conj(Yd[3,2]) + 3*Yu[1,2]*Yd[3,3]*conj(Yd[3,3]) + Yu[1,2]*Ye[1,1]*conj(Ye[1,1]) + Yu[1,2]*Ye[1,2]*conj(Ye[1,2]) + Yu[1,2]*Ye[1,3]*conj(Ye[1,3]) + Yu[1,2]*Ye[2,1]*conj(Ye[2,1]) + Yu[1,2]*Ye[2,2]*conj(Ye[2,2]) + Yu[1,2]*Ye[2,3]*conj(Ye[2,3]) + Yu[1,2]*Ye[3,1]*conj(Ye[3,1]) + Yu[1,2]*Ye[3,2]*conj(Ye[3,2]) + Yu[1,2]*Ye[3,3]*conj(Ye[3,3]) + 3/2*Yu[1,3]*Yu[2,2]*conj(Yu[2,3]) + 3/2*Yu[1,3]*Yu[3,2]*conj(Yu[3,3]) - 3/2*Yu[2,2]*Yd[1,1]*conj(Yd[2,1]) - 3/2*Yu[2,2]*Yd[1,2]*conj(Yd[2,2]) - 3/2*Yu[2,2]*Yd[1,3]*conj(Yd[2,3]) - 3/2*Yu[3,2]*Yd[1,1]*conj(Yd[3,1]) - 3/2*Yu[3,2]*Yd[1,2]*conj(Yd[3,2]) - 3/2*Yu[3,2]*Yd[1,3]*conj(Yd[3,3])";
+
+#[test]
+fn three_generations_have_the_published_line(rt: HostRuntime) -> Result<(), AllocError> {
+    let file = demo(rt.alloc(), 2)?;
+    let mut out = SureSink::new(rt.alloc(), 1_048_576)?;
+    let mut source = SureSource::new(file);
+    let (code, _) = run_over(&rt, rt.alloc(), DERIVE_TWO, &mut source, &mut out)?;
+    assert_eq!(rt; code, 0);
+    let text = str::from_utf8(out.bytes().unwrap_or(b"")).unwrap_or("");
+    assert!(rt; text.lines().any(|line| line == YU12), "{text}");
     Ok(())
 }
 

@@ -1,7 +1,0 @@
-use Rattle.std.proofs.Common.{◌≡◌, ◌++◌, take}
-use Rattle.std.specs.List.{flat_map}
-use Rattle.rate_tool.specs.Text.{line_text, head_text}
-use Rattle.rate_tool.proofs.print.print_betas.Given as goal
-
-abbrev pub invariant-loop-line : goal.invariant-loop-line
-invariant-loop-line l = l.text ≡ head_text l.betas.model l.betas.loops ++ flat_map (line_text l.betas.targets) (take l.line-index l.line-items)
