@@ -98,9 +98,24 @@ pub fn print_summary(alloc: Global, seed: u64, betas: &Betas) -> Result<ByteList
     let mut text = ByteList::new(alloc);
     push_count(alloc, &mut text, b"demo ", u128::from(seed))?;
     push_count(alloc, &mut text, b" generations ", u128::from(generations))?;
-    push_count(alloc, &mut text, b" betas ", count_of(LineKind::OfBeta, lines))?;
-    push_count(alloc, &mut text, b" open ", count_of(LineKind::OfOpen, lines))?;
-    push_count(alloc, &mut text, b" generated ", count_of(LineKind::OfGenerated, lines))?;
+    push_count(
+        alloc,
+        &mut text,
+        b" betas ",
+        count_of(LineKind::OfBeta, lines),
+    )?;
+    push_count(
+        alloc,
+        &mut text,
+        b" open ",
+        count_of(LineKind::OfOpen, lines),
+    )?;
+    push_count(
+        alloc,
+        &mut text,
+        b" generated ",
+        count_of(LineKind::OfGenerated, lines),
+    )?;
     push_count(alloc, &mut text, b" monomials ", monomial_count(lines))?;
     text.extend(b"\n")?;
     Ok(text)

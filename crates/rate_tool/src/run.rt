@@ -130,7 +130,7 @@ fn checked_text<R: Threads + Sync, G: Gate>(
 }
 
 /// What is told of the beta functions of a file that was made of a seed.
-fn demo_text<R: Threads + Sync, G: Gate>(
+fn summary_text<R: Threads + Sync, G: Gate>(
     rt: &R,
     alloc: Global,
     seed: u64,
@@ -162,7 +162,7 @@ fn answer_to<R: Threads + Sync, G: Gate>(
             workers,
         } => derived_text(rt, alloc, loops, format, workers, file, gate),
         Command::Check => checked_text(rt, alloc, file, gate),
-        Command::Demo { seed } => demo_text(rt, alloc, seed, file, gate),
+        Command::Demo { seed } => summary_text(rt, alloc, seed, file, gate),
     }
 }
 
