@@ -1,8 +1,9 @@
 pub mod Stream
 pub mod Memory
-pub mod Register
 pub mod Words
 pub mod Lines
 pub mod StatusLine
+pub mod Reply
 pub mod Run
 pub mod Steps
+pub mod History

@@ -1,10 +1,12 @@
 -- The answers of one line.
 use Rattle.std.specs.Prelude.{ℕ, ◌+◌, List, [], ◌∷◌, ◌++◌, length, codes, decimal}
+use Rattle.std.specs.List.{flat_map}
 use Rattle.derive_core.specs.declared.betas.Line.{Line}
 use Rattle.derive_core.specs.declared.betas.Line.TheVariants.{Beta, NotSpanned, Generated}
 use Rattle.derive_core.specs.declared.betas.Betas.{Betas}
 use Rattle.derive_core.specs.declared.betas.Checked.{Checked}
 use Rattle.demo_models.specs.Demo.{generations_of}
+use Rattle.register_core.specs.declared.register.NameCount.{NameCount}
 use Rattle.rate_tool.specs.declared.lines.LineKind.{LineKind}
 use Rattle.rate_tool.specs.declared.lines.LineKind.TheVariants.{OfBeta, OfOpen, OfGenerated}
 
@@ -39,3 +41,14 @@ summary_text seed betas =
     codes "demo " ++ decimal seed ++ codes " generations " ++ decimal (generations_of seed) ++ codes " betas " ++ decimal (count_of OfBeta betas.lines)
     ++ codes " open " ++ decimal (count_of OfOpen betas.lines) ++ codes " generated " ++ decimal (count_of OfGenerated betas.lines)
     ++ codes " monomials " ++ decimal (monomial_count betas.lines) ++ codes "\n"
+
+-- what is written of a version that was stored
+abbrev pub stored_text : List ℕ → ℕ → List ℕ
+stored_text name version = name ++ codes " " ++ decimal version ++ codes "\n"
+
+-- what is written of the names and their numbers of versions
+abbrev pub count_text : NameCount → List ℕ
+count_text entry = entry.name ++ codes " " ++ decimal entry.count ++ codes "\n"
+
+abbrev pub counts_text : List NameCount → List ℕ
+counts_text counts = flat_map count_text counts

@@ -1,10 +1,6 @@
 -- What sources and sinks in memory hold.
-use Rattle.std.specs.Prelude.{ℕ, ◌+◌, ◌==◌, nat_le, Bool, if◌then◌else◌, List, ◌++◌, length, Option, Some, None}
-use Rattle.std.specs.List.{list_any}
-
--- whether the number of a call stands in the list
-abbrev pub is_listed : List ℕ → ℕ → Bool
-is_listed fails call = list_any (λ number. number == call) fails
+use Rattle.std.specs.Prelude.{ℕ, ◌+◌, nat_le, if◌then◌else◌, List, ◌++◌, length, Option, Some, None}
+pub use Rattle.register_core.specs.Memory.{is_listed}
 
 -- a source that fails on some calls: the bytes left, the numbers of the calls that fail, and how many calls and faults there were
 pub record MemoryInput : Type 0 where

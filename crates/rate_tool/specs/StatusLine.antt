@@ -30,6 +30,9 @@ code_of (status.Malformed fault) = 5
 code_of (status.BadTerm fault) = 6
 code_of (status.Anomalous found) = 7
 code_of (status.Overflow pair) = 8
+code_of status.NoSuch = 9
+code_of status.Full = 10
+code_of status.KeeperFault = 11
 code_of status.WriteFault = 12
 
 -- the name of a kind of fault, as the type has it
@@ -122,4 +125,7 @@ status_text (status.Malformed fault) = fault_text fault
 status_text (status.BadTerm fault) = term_text fault
 status_text (status.Anomalous found) = anomaly_text found
 status_text (status.Overflow pair) = overflow_text pair
+status_text status.NoSuch = codes "no such\n"
+status_text status.Full = codes "full\n"
+status_text status.KeeperFault = codes "keeper fault\n"
 status_text status.WriteFault = codes "write fault\n"

@@ -1,29 +1,22 @@
 -- The steps of a run.
-use Rattle.std.specs.Prelude.{◌≡◌, ⊤, true, ℕ, ◌≤◌, List, ◌++◌, length, Option, Result, Ok, Err, Vec}
+use Rattle.std.specs.Prelude.{◌≡◌, ◌<◌, ⊤, ℕ, ◌≤◌, List, [], ◌++◌, length, Option, Result, Ok, Err, Vec}
 use Rattle.std.specs.declared.alloc.Global.{Global}
-use Rattle.frac128.specs.declared.frac.Overflow.{Overflow}
 use Rattle.derive_core.specs.declared.fault.DeriveFault.{DeriveFault}
 use Rattle.derive_core.specs.declared.fault.DeriveFault.TheVariants as fault
 use Rattle.derive_core.specs.Derivation.{Overflows}
 use Rattle.rate_tool.specs.Stream.{Rose, Gave, IsEmptied, Took, TookFront}
-use Rattle.rate_tool.specs.Run.{IsAnswer, WasRead, WasTooLong, HasFile}
-use Rattle.rate_tool.specs.Words.{reads_source}
+use Rattle.register_core.specs.Register.{Register, Key}
+use Rattle.rate_tool.specs.Reply.{limit, IsPrinting, IsReplyTo, IsReplyToSource, keeping, IsReply}
+use Rattle.rate_tool.specs.Run.{Call, GaveFile, IsCaused, Replies}
+use Rattle.rate_tool.specs.declared.reply.Reply.{Reply}
+use Rattle.rate_tool.specs.declared.reply.Reply.TheVariants as reply
+use Rattle.rate_tool.specs.declared.reading.Stop.{Stop}
+use Rattle.rate_tool.specs.declared.reading.Stop.TheVariants as stop
 use Rattle.rate_tool.specs.declared.words.Command.{Command}
-use Rattle.rate_tool.specs.declared.run.Stop.{Stop}
-use Rattle.rate_tool.specs.declared.run.Stop.TheVariants as stop
 use Rattle.rate_tool.specs.declared.status.Status.{Status}
 use Rattle.rate_tool.specs.declared.status.Status.TheVariants as status
 
--- What is told of the two streams before and after a call: the bytes left and taken, and the counts of faults.
-pub record Streams : Type 0 where
-  pub left : Option (List ℕ)
-  pub left' : Option (List ℕ)
-  pub taken : Option (List ℕ)
-  pub taken' : Option (List ℕ)
-  pub reads : ℕ
-  pub reads' : ℕ
-  pub writes : ℕ
-  pub writes' : ℕ
+-- ---- reading
 
 -- what one piece adds to the bytes that were read
 pub record AddsPiece (left left' : Option (List ℕ)) (old new : List ℕ) (room count : ℕ) : Type 0 where
@@ -41,6 +34,18 @@ PieceEnds left left' old new room reads reads' (Err stop.NoMemory) = reads' ≡ 
 PieceEnds left left' old new room reads reads' (Err stop.ReadFault) = Rose reads reads'
 PieceEnds left left' old new room reads reads' (Err stop.TooLong) = ⊥
 
+-- The file was read whole: the source gave these bytes and has none left, and they are not too many.
+pub record WasRead (left left' : Option (List ℕ)) (file : List ℕ) : Type 0 where
+  pub gave : Gave left left' file
+  pub ended : IsEmptied left'
+  pub short : length file ≤ limit
+
+-- the source gave more bytes than a file may have
+pub record WasTooLong (left left' : Option (List ℕ)) : Type 0 where
+  pub bytes : List ℕ
+  pub gave : Gave left left' bytes
+  pub long : limit < length bytes
+
 -- how the reading of a whole source ends
 abbrev pub ReadEnds : Option (List ℕ) → Option (List ℕ) → ℕ → ℕ → Result (Vec ℕ Global) Stop → Type 0
 ReadEnds left left' reads reads' (Ok bytes) = WasRead left left' bytes.items × (reads' ≡ reads)
@@ -48,59 +53,131 @@ ReadEnds left left' reads reads' (Err stop.NoMemory) = reads' ≡ reads
 ReadEnds left left' reads reads' (Err stop.ReadFault) = Rose reads reads'
 ReadEnds left left' reads reads' (Err stop.TooLong) = WasTooLong left left' × (reads' ≡ reads)
 
--- how the taking of a command's model file ends
-abbrev pub TakingEnds : Command → Option (List ℕ) → Option (List ℕ) → ℕ → ℕ → Result (Vec ℕ Global) Stop → Type 0
-TakingEnds command left left' reads reads' (Ok file) = HasFile command left left' file.items × (reads' ≡ reads)
-TakingEnds command left left' reads reads' (Err stop.NoMemory) = reads' ≡ reads
-TakingEnds command left left' reads reads' (Err stop.ReadFault) = Rose reads reads'
-TakingEnds command left left' reads reads' (Err stop.TooLong) = (reads_source command ≡ true) × WasTooLong left left' × (reads' ≡ reads)
+-- ---- answering
 
--- how the answer of a command to a file ends: with the one that is due, with a refused pair, or for want of memory
-abbrev pub AnswerEnds : Command → List ℕ → Result (List ℕ) DeriveFault → Type 0
-AnswerEnds command file (Ok text) = IsAnswer command file (Ok text)
-AnswerEnds command file (Err (fault.Read bad)) = IsAnswer command file (Err (fault.Read bad))
-AnswerEnds command file (Err (fault.Term bad)) = IsAnswer command file (Err (fault.Term bad))
-AnswerEnds command file (Err (fault.Anomalous bad)) = IsAnswer command file (Err (fault.Anomalous bad))
-AnswerEnds command file (Err (fault.Overflow pair)) = Overflows file pair
-AnswerEnds command file (Err fault.NoMemory) = ⊤
+-- how the answer to a file ends: with the one that is due, with a refused pair, or for want of memory
+abbrev pub AnswerEnds : (List ℕ → Result (List ℕ) DeriveFault → Type 0) → List ℕ → Result (List ℕ) DeriveFault → Type 0
+AnswerEnds Answers file (Ok text) = Answers file (Ok text)
+AnswerEnds Answers file (Err (fault.Overflow pair)) = Overflows file pair
+AnswerEnds Answers file (Err fault.NoMemory) = ⊤
+AnswerEnds Answers file (Err bad) = Answers file (Err bad)
 
--- no read failed, and this is what the command answers to its file
-pub record Answers (command : Command) (s : Streams) (answer : Result (List ℕ) DeriveFault) : Type 0 where
-  pub file : List ℕ
-  pub read : HasFile command s.left s.left' file
-  pub counted : s.reads' ≡ s.reads
-  pub answers : IsAnswer command file answer
+-- the status with which reading stopped
+abbrev pub stopped : Stop → Status
+stopped stop.NoMemory = status.NoMemory
+stopped stop.ReadFault = status.ReadFault
+stopped stop.TooLong = status.TooLong
 
--- no read failed, the command's file stands for a model, and this pair of fractions is refused
-pub record ReadsOverflow (command : Command) (s : Streams) (pair : Overflow) : Type 0 where
-  pub file : List ℕ
-  pub read : HasFile command s.left s.left' file
-  pub counted : s.reads' ≡ s.reads
-  pub overflows : Overflows file pair
+-- the bytes that a reply has
+abbrev pub bytes_of : Reply → List ℕ
+bytes_of (reply.Line line) = line
+bytes_of (reply.Text text) = text
 
--- the whole answer was written
-pub record WritesWhole (command : Command) (s : Streams) : Type 0 where
+-- the source gave these bytes, and this is the reply to them
+pub record RepliesToSource (Answers : List ℕ → Result (List ℕ) DeriveFault → Type 0) (left left' : Option (List ℕ)) (answer : Result (List ℕ) Status) : Type 0 where
+  pub bytes : List ℕ
+  pub read : GaveFile left left' bytes
+  pub answers : IsReplyToSource Answers bytes answer
+
+-- how a command ends that only reads the source
+abbrev pub SourceEnds : (List ℕ → Result (List ℕ) DeriveFault → Type 0) → Option (List ℕ) → Option (List ℕ) → ℕ → ℕ → Result (List ℕ) Status → Type 0
+SourceEnds Answers left left' reads reads' (Err status.NoMemory) = reads' ≡ reads
+SourceEnds Answers left left' reads reads' (Err status.ReadFault) = Rose reads reads'
+SourceEnds Answers left left' reads reads' answer = RepliesToSource Answers left left' answer × (reads' ≡ reads)
+
+-- how a command ends that makes its file
+abbrev pub MadeEnds : (List ℕ → Result (List ℕ) DeriveFault → Type 0) → List ℕ → Result (List ℕ) Status → Type 0
+MadeEnds Answers file (Err status.NoMemory) = ⊤
+MadeEnds Answers file answer = IsReplyTo Answers file answer
+
+-- the counts of faults of the source and of the keeper before and after a call
+pub record Counts : Type 0 where
+  pub reads : ℕ
+  pub reads' : ℕ
+  pub keeps : ℕ
+  pub keeps' : ℕ
+
+-- no call failed
+pub record IsQuiet (counts : Counts) : Type 0 where
+  pub reads : counts.reads' ≡ counts.reads
+  pub keeps : counts.keeps' ≡ counts.keeps
+
+-- a call of the keeper failed, and no read did
+pub record IsKeepersFault (counts : Counts) : Type 0 where
+  pub reads : counts.reads' ≡ counts.reads
+  pub rose : Rose counts.keeps counts.keeps'
+
+-- a read failed, and no call of the keeper did
+pub record IsSourcesFault (counts : Counts) : Type 0 where
+  pub rose : Rose counts.reads counts.reads'
+  pub keeps : counts.keeps' ≡ counts.keeps
+
+-- how a command ends before anything is written
+abbrev pub ReplyEnds : Type 0 → Command → Call → Counts → Result (List ℕ) Status → Type 0
+ReplyEnds told command call counts (Err status.Done) = ⊥
+ReplyEnds told command call counts (Err status.NoMemory) = IsQuiet counts
+ReplyEnds told command call counts (Err status.Usage) = ⊥
+ReplyEnds told command call counts (Err status.ReadFault) = IsSourcesFault counts
+ReplyEnds told command call counts (Err status.KeeperFault) = IsKeepersFault counts
+ReplyEnds told command call counts (Err status.WriteFault) = ⊥
+ReplyEnds told command call counts answer = Replies told command call answer × IsQuiet counts
+
+-- what a command that asks only the keeper replied, and which register it left
+pub record KeeperReplies (told : Type 0) (command : Command) (register register' : Register) (answer : Result (List ℕ) Status) : Type 0 where
+  pub answers : told → IsReply command register [] answer register'
+  pub caused : IsCaused command [] answer
+
+-- how a command ends that asks only the keeper
+abbrev pub KeeperEnds : Type 0 → Command → Register → Register → ℕ → ℕ → Result (List ℕ) Status → Type 0
+KeeperEnds told command register register' keeps keeps' (Err status.Done) = ⊥
+KeeperEnds told command register register' keeps keeps' (Err status.NoMemory) = keeps' ≡ keeps
+KeeperEnds told command register register' keeps keeps' (Err status.Usage) = ⊥
+KeeperEnds told command register register' keeps keeps' (Err status.ReadFault) = ⊥
+KeeperEnds told command register register' keeps keeps' (Err status.KeeperFault) = Rose keeps keeps'
+KeeperEnds told command register register' keeps keeps' (Err status.WriteFault) = ⊥
+KeeperEnds told command register register' keeps keeps' answer = KeeperReplies told command register register' answer × (keeps' ≡ keeps)
+
+-- the output of a file, and the register that it is kept in
+pub record IsFresh (told : Type 0) (key : Key) (file : List ℕ) (register register' : Register) (answer : Result (List ℕ) Status) : Type 0 where
+  pub answers : IsReplyTo (IsPrinting key.loops key.format) file answer
+  pub kept : told → register' ≡ keeping register key answer
+
+-- how a run ends that nothing is kept of yet
+abbrev pub FreshEnds : Type 0 → Key → List ℕ → Register → Register → ℕ → ℕ → Result (List ℕ) Status → Type 0
+FreshEnds told key file register register' keeps keeps' (Err status.NoMemory) = keeps' ≡ keeps
+FreshEnds told key file register register' keeps keeps' (Err status.KeeperFault) = Rose keeps keeps'
+FreshEnds told key file register register' keeps keeps' answer = IsFresh told key file register register' answer × (keeps' ≡ keeps)
+
+-- the bytes of a reply that is given
+abbrev pub written : Result Reply Status → Result (List ℕ) Status
+written (Ok given) = Ok (bytes_of given)
+written (Err refusal) = Err refusal
+
+-- ---- writing
+
+-- the counts of the sink's faults, and the bytes that it told before and after a call
+pub record Output : Type 0 where
+  pub taken : Option (List ℕ)
+  pub taken' : Option (List ℕ)
+  pub writes : ℕ
+  pub writes' : ℕ
+
+-- the whole reply was written
+pub record WritesWhole (told : Type 0) (command : Command) (call : Call) (output : Output) : Type 0 where
   pub text : List ℕ
-  pub answer : Answers command s (Ok text)
-  pub took : Took s.taken s.taken' text
-  pub counted : s.writes' ≡ s.writes
+  pub replies : Replies told command call (Ok text)
+  pub took : Took output.taken output.taken' text
+  pub counted : output.writes' ≡ output.writes
 
--- a front of the answer was written
-pub record WritesFront (command : Command) (s : Streams) : Type 0 where
+-- a front of the reply was written
+pub record WritesFront (told : Type 0) (command : Command) (call : Call) (output : Output) : Type 0 where
   pub text : List ℕ
-  pub answer : Answers command s (Ok text)
-  pub took : TookFront s.taken s.taken' text
-  pub rose : Rose s.writes s.writes'
+  pub replies : Replies told command call (Ok text)
+  pub took : TookFront output.taken output.taken' text
+  pub rose : Rose output.writes output.writes'
 
 -- how a command ends, status by status
-abbrev pub FileEnds : Command → Streams → Status → Type 0
-FileEnds command s status.Done = WritesWhole command s
-FileEnds command s status.NoMemory = s.reads' ≡ s.reads
-FileEnds command s status.Usage = ⊥
-FileEnds command s status.ReadFault = Rose s.reads s.reads'
-FileEnds command s status.TooLong = (reads_source command ≡ true) × WasTooLong s.left s.left' × (s.reads' ≡ s.reads)
-FileEnds command s (status.Malformed bad) = Answers command s (Err (fault.Read bad))
-FileEnds command s (status.BadTerm bad) = Answers command s (Err (fault.Term bad))
-FileEnds command s (status.Anomalous bad) = Answers command s (Err (fault.Anomalous bad))
-FileEnds command s (status.Overflow pair) = ReadsOverflow command s pair
-FileEnds command s status.WriteFault = WritesFront command s
+abbrev pub CommandEnds : Type 0 → Command → Call → Counts → Output → Status → Type 0
+CommandEnds told command call counts output status.Done = WritesWhole told command call output × IsQuiet counts
+CommandEnds told command call counts output status.WriteFault = WritesFront told command call output × IsQuiet counts
+CommandEnds told command call counts output refusal = ReplyEnds told command call counts (Err refusal)

@@ -1,14 +1,7 @@
 -- What reads and writes do to the bytes that a source and a sink tell, and to their counts of faults.
-use Rattle.std.specs.Prelude.{◌≡◌, ℕ, ◌+◌, ◌-◌, ◌^◌, ◌≤◌, min, List, [], ◌++◌, take, ⊤, Option, Some, None, Result, Ok, Err, OnOk, OnErr, is_err, if◌then◌else◌}
+use Rattle.std.specs.Prelude.{◌≡◌, ℕ, ◌≤◌, List, [], ◌++◌, take, ⊤, Option, Some, None, Result, Ok, Err, OnOk, OnErr, is_err, if◌then◌else◌}
+pub use Rattle.register_core.specs.Counts.{Rose, one_more}
 use Rattle.rate_tool.specs.declared.stream.Failed.{Failed}
-
--- one more, on a counter that stays at the last value of 64 bits
-abbrev pub one_more : ℕ → ℕ
-one_more count = min (count + 1) (2 ^ 64 - 1)
-
--- A count rose from its value before a call to the one now. One that stands at its last value counts as risen.
-abbrev pub Rose : ℕ → ℕ → Type 0
-Rose before now = one_more before ≤ now
 
 -- The count doesn't fall, a failure comes only where it rose, and an Ok leaves it.
 pub record HasCause {T E : Type 0} (before now : ℕ) (result : Result T E) : Type 0 where

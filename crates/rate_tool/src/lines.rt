@@ -1,10 +1,13 @@
 //! The answers of one line.
 ghost use Rattle.std.specs.Prelude.{◌≡◌, ◌≤◌, ◌++◌, IfOk, OnOk, codes, decimal};
-ghost use Rattle.rate_tool.specs.Lines.{accepted_text, summary_text, share_of, count_of, line_monomials, monomial_count};
+ghost use Rattle.rate_tool.specs.Lines.{accepted_text, count_text, counts_text, stored_text, summary_text, share_of, count_of, line_monomials, monomial_count};
 
 use demo_models::generations;
 use derive_core::{Betas, Checked, Line};
 use frac128::ByteList;
+use model_core::Name;
+use print_beta::{LineText, push_number};
+use register_core::{NameCount, NameCountList};
 use std::alloc::{AllocError, Global};
 
 /// What is written of a model that is accepted.
@@ -118,5 +121,37 @@ pub fn print_summary(alloc: Global, seed: u64, betas: &Betas) -> Result<ByteList
     )?;
     push_count(alloc, &mut text, b" monomials ", monomial_count(lines))?;
     text.extend(b"\n")?;
+    Ok(text)
+}
+
+/// What is written of a version that was stored. It takes no memory.
+pub fn stored_line(name: &Name, version: u32) -> LineText
+    ensures { result ≡ stored_text name.now version }
+{
+    let mut line = LineText::new();
+    line.extend(name.as_bytes());
+    line.extend(b" ");
+    push_number(&mut line, version);
+    line.extend(b"\n");
+    line
+}
+
+/// Adds a name and its number of versions.
+fn push_name_count(alloc: Global, text: &mut ByteList, entry: &NameCount) -> Result<(), AllocError>
+    ensures { OnOk result (text.new ≡ text.old ++ count_text entry.now) }
+{
+    text.extend(entry.name.as_bytes())?;
+    push_count(alloc, text, b" ", u128::from(entry.count))?;
+    text.extend(b"\n")
+}
+
+/// What is written of the names and their numbers of versions.
+pub fn print_counts(alloc: Global, counts: &NameCountList) -> Result<ByteList, AllocError>
+    ensures { IfOk result (λ text. text ≡ counts_text counts.now) }
+{
+    let mut text = ByteList::new(alloc);
+    for entry in counts.as_slice() {
+        push_name_count(alloc, &mut text, entry)?;
+    }
     Ok(text)
 }

@@ -6,10 +6,14 @@ ghost use Rattle.rate_tool.specs.StatusLine.{code_of, status_text};
 use crate::fault_lines::{anomaly_line, fault_line, overflow_line, term_line};
 use crate::stream::{Failed, Sink, write_all};
 use anomaly_check::Anomaly;
+use derive_core::DeriveFault;
 use frac128::Overflow;
 use gauge_check::TermFault;
 use model_core::ReadFault;
+use model_reader::ReadError;
 use print_beta::{LineText, short_line};
+use register_core::RegisterFault;
+use std::alloc::AllocError;
 
 /// How a run ended.
 #[derive(Drop)]
@@ -32,12 +36,18 @@ pub enum Status {
     Anomalous(Anomaly),
     /// The sum or the product of two fractions is refused, because its numbers are too large.
     Overflow(Overflow),
+    /// The register has no such name or version.
+    NoSuch,
+    /// The name has as many versions as it may have, and the bytes are new.
+    Full,
+    /// A call of the keeper failed.
+    KeeperFault,
     /// A write failed.
     WriteFault,
 }
 
 impl Status {
-    /// The exit code: 0 to 8, where 8 is for a refused sum or product, or 12 for a failed write.
+    /// The exit code: 0 to 12 in this order.
     pub fn code(&self) -> u8
         ensures { result ≡ code_of self.now }
     {
@@ -51,6 +61,9 @@ impl Status {
             Status::BadTerm(_) => 6,
             Status::Anomalous(_) => 7,
             Status::Overflow(_) => 8,
+            Status::NoSuch => 9,
+            Status::Full => 10,
+            Status::KeeperFault => 11,
             Status::WriteFault => 12,
         }
     }
@@ -79,6 +92,68 @@ fn line_of(status: &Status) -> LineText
         Status::BadTerm(fault) => term_line(fault),
         Status::Anomalous(anomaly) => anomaly_line(anomaly),
         Status::Overflow(pair) => overflow_line(pair),
+        Status::NoSuch => short_line(b"no such\n"),
+        Status::Full => short_line(b"full\n"),
+        Status::KeeperFault => short_line(b"keeper fault\n"),
         Status::WriteFault => short_line(b"write fault\n"),
+    }
+}
+
+impl From<AllocError> for Status {
+    ghost use Rattle.std.specs.Prelude.{◌≡◌};
+    ghost use Rattle.rate_tool.specs.declared.status.Status.{Status};
+
+    ghost from_gives = { λ _ status. status ≡ Status.NoMemory };
+
+    fn from(_error: AllocError) -> Status {
+        Status::NoMemory
+    }
+}
+
+impl From<ReadError> for Status {
+    ghost use Rattle.std.specs.Prelude.{◌≡◌};
+    ghost use Rattle.rate_tool.specs.Reply.{unreadable};
+
+    ghost from_gives = { λ error status. status ≡ unreadable error };
+
+    fn from(error: ReadError) -> Status {
+        match error {
+            ReadError::Fault(bad) => Status::Malformed(bad),
+            ReadError::NoMemory => Status::NoMemory,
+        }
+    }
+}
+
+impl From<DeriveFault> for Status {
+    ghost use Rattle.std.specs.Prelude.{◌≡◌};
+    ghost use Rattle.rate_tool.specs.Reply.{refusal_of};
+
+    ghost from_gives = { λ fault status. status ≡ refusal_of fault };
+
+    fn from(fault: DeriveFault) -> Status {
+        match fault {
+            DeriveFault::Read(bad) => Status::Malformed(bad),
+            DeriveFault::Term(bad) => Status::BadTerm(bad),
+            DeriveFault::Anomalous(bad) => Status::Anomalous(bad),
+            DeriveFault::Overflow(pair) => Status::Overflow(pair),
+            DeriveFault::NoMemory => Status::NoMemory,
+        }
+    }
+}
+
+impl From<RegisterFault> for Status {
+    ghost use Rattle.std.specs.Prelude.{◌≡◌};
+    ghost use Rattle.rate_tool.specs.Reply.{denial_of};
+
+    ghost from_gives = { λ fault status. status ≡ denial_of fault };
+
+    fn from(fault: RegisterFault) -> Status {
+        match fault {
+            RegisterFault::NoSuchName => Status::NoSuch,
+            RegisterFault::NoSuchVersion { .. } => Status::NoSuch,
+            RegisterFault::Full { .. } => Status::Full,
+            RegisterFault::Keeper => Status::KeeperFault,
+            RegisterFault::NoMemory => Status::NoMemory,
+        }
     }
 }

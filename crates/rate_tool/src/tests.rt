@@ -1,5 +1,4 @@
 //! Worked examples of `run` over objects in memory, and of the adapters.
-use crate::broken_keeper::BrokenKeeper;
 use crate::run::run;
 use crate::sinks::{MemorySink, SureSink};
 use crate::sources::{MemorySource, SureSource};
@@ -9,6 +8,7 @@ use crate::streams::{Reading, Writing};
 use contraction_workers::NoGate;
 use demo_models::demo;
 use frac128::{ByteList, FailList, Frac, Overflow};
+use register_core::{BrokenKeeper, Keeper};
 use std::alloc::{AllocError, Global};
 use std::process::Abort;
 use std::rc::RcStr;
@@ -48,7 +48,27 @@ fn only_call(alloc: Global, number: u64) -> Result<FailList, AllocError> {
     Ok(fails)
 }
 
-/// Runs the words over a source and a sink, and gives the exit code and the sink of the status line.
+/// Runs the words over a source, a sink and a keeper, and gives the exit code and the sink of the
+/// status line.
+pub fn run_with<R: Threads + Sync, S: Source, O: Sink, K: Keeper>(
+    rt: &R,
+    alloc: Global,
+    texts: &[&str],
+    source: &mut S,
+    out: &mut O,
+    keeper: &mut K,
+) -> Result<(u8, SureSink), AllocError> {
+    let mut words = Vec::new(alloc);
+    for text in texts {
+        words.push(RcStr::from_str(alloc, text)?)?;
+    }
+    let status = run(rt, alloc, words.as_slice(), source, out, keeper, &NoGate);
+    let mut line = SureSink::new(alloc, 256)?;
+    let _ = status.write_line(&mut line);
+    Ok((status.code(), line))
+}
+
+/// The same beside a keeper that fails.
 fn run_over<R: Threads + Sync, S: Source, O: Sink>(
     rt: &R,
     alloc: Global,
@@ -56,23 +76,7 @@ fn run_over<R: Threads + Sync, S: Source, O: Sink>(
     source: &mut S,
     out: &mut O,
 ) -> Result<(u8, SureSink), AllocError> {
-    let mut words = Vec::new(alloc);
-    for text in texts {
-        words.push(RcStr::from_str(alloc, text)?)?;
-    }
-    let mut keeper = BrokenKeeper::new();
-    let status = run(
-        rt,
-        alloc,
-        words.as_slice(),
-        source,
-        out,
-        &mut keeper,
-        &NoGate,
-    );
-    let mut line = SureSink::new(alloc, 256)?;
-    let _ = status.write_line(&mut line);
-    Ok((status.code(), line))
+    run_with(rt, alloc, texts, source, out, &mut BrokenKeeper::new())
 }
 
 /// Checks what a command writes and how it ends, with its status line.
@@ -137,6 +141,40 @@ fn words_have_their_answers(rt: HostRuntime) -> Result<(), AllocError> {
     ];
     for (words, code, text, line) in rows {
         check(&rt, rt.alloc(), words, FILE, code, text, line)?;
+    }
+    Ok(())
+}
+
+/// Words that are no command on a register.
+const NO_COMMANDS: [&[&str]; 10] = [
+    &["store"],
+    &["store", "eps"],
+    &["store", "1ym"],
+    &["store", "ym", "1"],
+    &["show", "ym"],
+    &["show", "ym", "10001"],
+    &["list", "ym"],
+    &["run", "ym", "1", "3", "text", "1"],
+    &["run", "ym", "0", "1", "text", "1"],
+    &["run", "ym", "1", "1", "text"],
+];
+
+/// Commands on a register.
+const COMMANDS: [&[&str]; 4] = [
+    &["list"],
+    &["store", "ym"],
+    &["show", "ym", "1"],
+    &["run", "ym", "1", "1", "text", "1"],
+];
+
+#[test]
+fn commands_on_a_register_are_found(rt: HostRuntime) -> Result<(), AllocError> {
+    for words in NO_COMMANDS {
+        check(&rt, rt.alloc(), words, FILE, 2, b"", b"usage\n")?;
+    }
+    // The keeper beside them fails.
+    for words in COMMANDS {
+        check(&rt, rt.alloc(), words, FILE, 11, b"", b"keeper fault\n")?;
     }
     Ok(())
 }

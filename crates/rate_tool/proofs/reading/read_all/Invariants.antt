@@ -1,6 +1,6 @@
 use Rattle.std.proofs.Common.{◌≡◌, ◌-◌, ◌≤◌, vec_len}
 use Rattle.rate_tool.specs.Stream.{Gave}
-use Rattle.rate_tool.proofs.run.read_all.Given as goal
+use Rattle.rate_tool.proofs.reading.read_all.Given as goal
 
 -- the source gave the bytes so far, and no read failed
 abbrev pub invariant-loop-buf : goal.invariant-loop-buf
