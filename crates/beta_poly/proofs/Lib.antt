@@ -10,3 +10,4 @@ pub mod ExponentLaws
 mod PolynomialLaws
 mod OrderLaws
 pub mod Evaluation
+pub mod Multiples

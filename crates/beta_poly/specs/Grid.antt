@@ -7,7 +7,7 @@ use Rattle.frac128.specs.Rational.{ℚ, ratio, whole, zero_ℚ, abs_ℚ, ◌*ℚ
 use Rattle.frac128.specs.RationalLaws.{ring_ℚ}
 use Rattle.beta_poly.specs.declared.symbol.Symbol.{Symbol}
 use Rattle.beta_poly.specs.Monomial.{Monomial}
-use Rattle.beta_poly.specs.Polynomial.{Polynomial}
+use Rattle.beta_poly.specs.Polynomial.{Polynomial, constant}
 
 -- the kinds of symbols: gauge couplings, couplings of terms with fermions, and couplings of scalar terms
 pub data Kind : Type 0 where
@@ -68,6 +68,10 @@ HasMultiples kinds grid p = All (λ e. IsMultiple (grid.den (class_of kinds e.0)
 pub record IsOnGrid (kinds : List Kind) (grid : Grid) (p : Polynomial) : Type 0 where
   pub multiples : HasMultiples kinds grid p
   pub sizes : (k : Class) → (whole (pos (grid.den k)) *ℚ class_size kinds k p) ≤ℚ whole (pos (grid.bound k))
+
+-- a fraction is on a grid as a polynomial of degree 0
+pub record IsFractionOnGrid (kinds : List Kind) (grid : Grid) (x : ℚ) : Type 0 where
+  pub on_grid : IsOnGrid kinds grid (constant x)
 
 -- the sum of the sizes of the coefficients of a class in all polynomials of a list
 abbrev pub list_size : List Kind → Class → List Polynomial → ℚ

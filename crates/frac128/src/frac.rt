@@ -9,8 +9,8 @@ ghost use Rattle.frac128.specs.Frac.{SumFits, ProductFits, QuotientFits, IsSmall
 
 use crate::euclid::gcd;
 use crate::small::{
-    checked_product, checked_size, checked_size_product, checked_sum, compare_products, quotient,
-    signed, signed_as,
+    checked_product, checked_size, checked_size_product, checked_sum, compare_products, divided,
+    quotient, signed, signed_as,
 };
 use std::cmp::Ordering;
 use std::fmt;
@@ -246,12 +246,12 @@ impl Frac {
         let first = self.den_size();
         let second = other.den_size();
         let common = gcd(first, second);
-        let step = first / common;
-        let left = checked_product(self.num(), signed(second / common))?;
+        let step = divided(first, common);
+        let left = checked_product(self.num(), signed(divided(second, common)))?;
         let right = checked_product(other.num(), signed(step))?;
         let top = checked_sum(left, right)?;
         let shared = gcd(top.unsigned_abs(), common);
-        let den = checked_size_product(step, second / shared)?;
+        let den = checked_size_product(step, divided(second, shared))?;
         let num = quotient(top, shared);
         Some(Frac::from_lowest_terms(num, den))
     }
@@ -270,7 +270,7 @@ impl Frac {
         let left = quotient(self.num(), down);
         let right = quotient(other.num(), up);
         let num = checked_product(left, right)?;
-        let den = checked_size_product(first / up, second / down)?;
+        let den = checked_size_product(divided(first, up), divided(second, down))?;
         Some(Frac::from_lowest_terms(num, den))
     }
 
@@ -282,8 +282,8 @@ impl Frac {
         let top = num.unsigned_abs();
         let bottom = den.unsigned_abs();
         let common = gcd(top, bottom);
-        let size = checked_size(top / common)?;
-        let den_size = checked_size(bottom / common)?;
+        let size = checked_size(divided(top, common))?;
+        let den_size = checked_size(divided(bottom, common))?;
         let num_signed = signed_as(num, den, size);
         Some(Frac::from_lowest_terms(num_signed, den_size))
     }

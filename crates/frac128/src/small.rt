@@ -1,5 +1,5 @@
 //! Numbers of at most 2^127 - 1 in size: the steps of which sums and products of fractions are made.
-ghost use Rattle.std.specs.Prelude.{◌≡◌, ◌*◌, ◌^◌, ◌<◌, ◌≤◌, pos, ◌+ℤ◌, ◌*ℤ◌, unsigned_abs, int_div};
+ghost use Rattle.std.specs.Prelude.{◌≡◌, ◌*◌, ◌/◌, ◌^◌, ◌<◌, ◌≤◌, pos, ◌+ℤ◌, ◌*ℤ◌, unsigned_abs, int_div};
 ghost use Rattle.std.specs.Option.{SomeIff};
 ghost use Rattle.std.specs.Ordering.{nat_cmp};
 ghost use Rattle.frac128.specs.Frac.{signed_as};
@@ -70,7 +70,18 @@ pub(crate) fn checked_size_product(a: u128, b: u128) -> Option<u128>
     }
 }
 
-/// The quotient toward zero.
+/// The quotient of two sizes. By 1 nothing is divided.
+pub(crate) fn divided(size: u128, by: u128) -> u128
+    requires { 0 < by }
+    ensures { result ≡ size / by }
+{
+    if by == 1 {
+        return size;
+    }
+    size / by
+}
+
+/// The quotient toward zero. By 1 nothing is divided.
 pub(crate) fn quotient(num: i128, by: u128) -> i128
     requires positive { 0 < by }
     requires num_small { unsigned_abs num < 2 ^ 127 }
@@ -78,6 +89,9 @@ pub(crate) fn quotient(num: i128, by: u128) -> i128
     ensures value { result ≡ int_div num (pos by) }
     ensures small { unsigned_abs result < 2 ^ 127 }
 {
+    if by == 1 {
+        return num;
+    }
     num / (by as i128)
 }
 

@@ -4,15 +4,13 @@ use Rattle.std.specs.List.{insert, range_with_len}
 use Rattle.std.proofs.Common.{sym, subst, ap, ◌∙◌, arith}
 use Rattle.std.proofs.lemmas.Option.{slice_get-get_or}
 use mathlib.Core.Path.{fun_ext}
-use Rattle.exact_algebra.specs.Maps.{const-one}
 use Rattle.exact_algebra.specs.Ranges.{sum-range}
-use Rattle.exact_algebra.specs.Ring.{zero_mul, one_mul}
+use Rattle.exact_algebra.specs.Ring.{zero_mul}
 use Rattle.exact_algebra.specs.Sums.{sum-map, sum-by_place, below, below-same, below-none}
 use Rattle.frac128.specs.Rational.{one_ℚ}
-use Rattle.frac128.specs.RationalLaws.{ring_ℚ}
 use Rattle.beta_poly.specs.Exponents.{AllWithin}
-use Rattle.beta_poly.specs.Monomial.{monomials}
-use Rattle.beta_poly.specs.Polynomial.{Polynomial, poly_ring, zero_test, mul_poly, scale_poly}
+use Rattle.beta_poly.specs.Polynomial.{Polynomial, poly_ring, mul_poly, scale_poly}
+use Rattle.beta_poly.proofs.Multiples.{scale_one}
 use Rattle.beta_poly.proofs.ExponentLaws.{AllWithin-mul, AllWithin-scale}
 use Rattle.sparse_tensor.specs.declared.links.Link.{Link}
 use Rattle.sparse_tensor.specs.Tensor.{Tensor, HasValues, value}
@@ -27,9 +25,6 @@ use Rattle.yukawa_one_loop.proofs.Pairs.{nobody, pair_at, no_row, no_column}
 use Rattle.quartic_one_loop.specs.FourLegs.{AreWithin}
 
 -- ---- sums over places
-
-scale_one : (p : Polynomial) → scale_poly one_ℚ p ≡ p
-scale_one p = ap (λ c. mul_poly c p) (const-one monomials ring_ℚ.semiring zero_test) ∙ one_mul poly_ring.semiring p
 
 from_zero : (i : ℕ) → 0 + i ≡ i
 from_zero i = omega arith

@@ -3,13 +3,11 @@ use Rattle.std.specs.Prelude.{◌≡◌, ◌<◌, ◌+◌, ◌-◌, ℕ, List, [
 use Rattle.std.specs.List.{insert}
 use Rattle.std.proofs.Common.{refl, sym, ap, ap₂, ◌∙◌, arith}
 use mathlib.Core.Path.{fun_ext}
-use Rattle.exact_algebra.specs.Maps.{const-one}
-use Rattle.exact_algebra.specs.Ring.{zero_mul, one_mul}
+use Rattle.exact_algebra.specs.Ring.{zero_mul}
 use Rattle.exact_algebra.specs.Sums.{sum-by_place, below, below-same, below-none}
 use Rattle.frac128.specs.Rational.{one_ℚ}
-use Rattle.frac128.specs.RationalLaws.{ring_ℚ}
-use Rattle.beta_poly.specs.Monomial.{monomials}
-use Rattle.beta_poly.specs.Polynomial.{Polynomial, poly_ring, zero_test, zero_poly, mul_poly, scale_poly}
+use Rattle.beta_poly.specs.Polynomial.{Polynomial, poly_ring, zero_poly, mul_poly, scale_poly}
+use Rattle.beta_poly.proofs.Multiples.{scale_one}
 use Rattle.sparse_tensor.specs.declared.links.Link.{Link}
 use Rattle.sparse_tensor.specs.Tensor.{Tensor, HasValues, rank_of, value}
 use Rattle.sparse_tensor.specs.Operations.{Values, joined, contracted_at}
@@ -25,9 +23,6 @@ use Rattle.yukawa_one_loop.proofs.Coordinates.{nobody, coordinates_count, coordi
 use Rattle.quartic_one_loop.specs.FourLegs.{four_at}
 use Rattle.quartic_one_loop.specs.LoopSums.{IsPartnerLink, ArePartnerLinks, loop_over}
 use Rattle.quartic_one_loop.proofs.Adding.{four_options}
-
-scale_one : (p : Polynomial) → scale_poly one_ℚ p ≡ p
-scale_one p = ap (λ c. mul_poly c p) (const-one monomials ring_ℚ.semiring zero_test) ∙ one_mul poly_ring.semiring p
 
 -- ---- functions of four coordinates that may be missing
 

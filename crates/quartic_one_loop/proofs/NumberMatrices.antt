@@ -7,15 +7,15 @@ use Rattle.std.proofs.lemmas.List.{length-set}
 use Rattle.std.proofs.lemmas.List.Elements.{All-append}
 use Rattle.std.proofs.lemmas.Option.{slice_get_past}
 use mathlib.Core.Path.{fun_ext}
-use Rattle.exact_algebra.specs.Maps.{const-one}
-use Rattle.exact_algebra.specs.Ring.{zero_mul, one_mul}
+use Rattle.exact_algebra.specs.Ring.{zero_mul}
 use Rattle.exact_algebra.specs.Sums.{sum, sum-one, below, below-at, below-none, at_below, nat_equal, where_equal, where_equal-apart}
 use Rattle.exact_algebra.specs.Kronecker.{mul_where}
 use Rattle.frac128.specs.Rational.{ℚ, zero_ℚ, one_ℚ, ◌+ℚ◌, ◌*ℚ◌}
 use Rattle.frac128.specs.RationalLaws.{ring_ℚ}
 use Rattle.beta_poly.specs.Exponents.{AllWithin}
-use Rattle.beta_poly.specs.Monomial.{monomials, one_monomial}
-use Rattle.beta_poly.specs.Polynomial.{Polynomial, poly_ring, zero_test, add_poly, mul_poly, scale_poly, constant}
+use Rattle.beta_poly.specs.Monomial.{one_monomial}
+use Rattle.beta_poly.specs.Polynomial.{Polynomial, poly_ring, add_poly, mul_poly, scale_poly, constant}
+use Rattle.beta_poly.proofs.Multiples.{scale_one}
 use Rattle.beta_poly.proofs.ExponentLaws.{AllWithin-term, IsWithin-one}
 use Rattle.sparse_tensor.specs.declared.links.Link.{Link}
 use Rattle.sparse_tensor.specs.declared.values.Value.{Value}
@@ -210,9 +210,6 @@ numbers_within n model f t has =
     within_values n t (λ key l. subst (AllWithin n) (sym (has.value_is key (l ∙ has.rank_is))) (constant_within n (number_at model f key)))
 
 -- ---- outer products
-
-scale_one : (p : Polynomial) → scale_poly one_ℚ p ≡ p
-scale_one p = ap (λ c. mul_poly c p) (const-one monomials ring_ℚ.semiring zero_test) ∙ one_mul poly_ring.semiring p
 
 -- at the first two legs the one matrix, and at the others the other one
 abbrev pub outer : NumberMatrix → NumberMatrix → FourLegs

@@ -4,3 +4,4 @@ pub mod Collected
 pub mod Constants
 pub mod Refusals
 pub mod Laws
+pub mod Grid

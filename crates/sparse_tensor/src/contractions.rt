@@ -8,7 +8,7 @@ ghost use Rattle.sparse_tensor.specs.Refusals.{IsTensorRefusal, IsRefusalOf};
 use crate::entries::Entry;
 use crate::fault::TensorFault;
 use crate::links::{Link, LinkList};
-use crate::polynomials::{multiple, product};
+use crate::polynomials::{product, scaled};
 use std::alloc::{AllocError, Global};
 
 /// The legs at which two tensors are joined.
@@ -71,7 +71,7 @@ fn push_met(
     ensures refused { IfErr result IsTensorRefusal }
 {
     let product = product(alloc, &a.1, &b.1)?;
-    let value = multiple(alloc, link.value, &product)?;
+    let value = scaled(alloc, link.value, product)?;
     let key = a.0.joined(alloc, legs.first, &b.0, legs.second)?;
     out.push((key, value))?;
     Ok(())

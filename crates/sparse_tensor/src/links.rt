@@ -1,5 +1,5 @@
 //! Links between places.
-ghost use Rattle.std.specs.Prelude.{◌≡◌, ◌==◌, ◌++◌, ◌∷◌, [], OnOk, OnErr};
+ghost use Rattle.std.specs.Prelude.{◌≡◌, ◌<◌, ◌==◌, ◌++◌, ◌∷◌, [], length, slice_get, Some, OnOk, OnErr};
 ghost use Rattle.sparse_tensor.specs.Operations.{IsAfter, IsLinks};
 ghost use Rattle.sparse_tensor.specs.Collected.{links_from};
 
@@ -68,6 +68,21 @@ impl LinkList {
     {
         self.links.push(link)?;
         Ok(())
+    }
+
+    /// The number of links.
+    pub fn len(&self) -> usize
+        ensures { result ≡ length self.now }
+    {
+        self.links.len()
+    }
+
+    /// The link at a place, counted from 0.
+    pub fn item(&self, place: usize) -> Link
+        requires { place < length self.now }
+        ensures { slice_get self.now place ≡ Some result }
+    {
+        self.links[place]
     }
 
     /// The links in their order.

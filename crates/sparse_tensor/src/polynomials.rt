@@ -37,6 +37,18 @@ pub(crate) fn multiple(alloc: Global, by: Frac, a: &Poly) -> Result<Poly, Tensor
     Ok(multiple)
 }
 
+/// The multiple of a value that is given away. 1 leaves it as it is.
+#[tactic(auto, using(beta_poly::proofs::Multiples::scale_one))]
+pub(crate) fn scaled(alloc: Global, by: Frac, a: Poly) -> Result<Poly, TensorFault>
+    ensures value { IfOk result (λ p. p ≡ scale_poly by a) }
+    ensures refused { IfErr result IsTensorRefusal }
+{
+    if by == Frac::one() {
+        return Ok(a);
+    }
+    multiple(alloc, by, &a)
+}
+
 /// The product of two values.
 #[tactic(auto, using(crate::proofs::Faults::product_refused))]
 pub(crate) fn product(alloc: Global, a: &Poly, b: &Poly) -> Result<Poly, TensorFault>
