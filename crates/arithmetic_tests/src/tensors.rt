@@ -3,9 +3,9 @@ ghost use Rattle.std.specs.Prelude.{◌≡◌, ◌<◌, ◌≤◌, ◌+◌, ◌-
 ghost use Rattle.sparse_tensor.specs.Tensor.{rank_of};
 ghost use Rattle.sparse_tensor.specs.Constants.{IsConstant, AllConstant};
 
-use super::*;
 use beta_poly::{Mono, Poly, Symbol};
 use frac128::{Frac, NumberList};
+use sparse_tensor::{Link, LinkList, Sparse, Value, ValueList};
 use std::alloc::{AllocError, Global};
 use std::process::Abort;
 

@@ -1,63 +1,64 @@
-//! Values that are worked out by hand from the definitions.
-ghost use Rattle.std.specs.Prelude.{◌≡◌, false, IsTrue, IfOk};
+//! Polynomials, by values that are worked out by hand from the definitions.
+ghost use Rattle.std.specs.Prelude.{◌≡◌, false, IsTrue};
 ghost use Rattle.beta_poly.specs.Exponents.{AllWithin};
 
-use super::*;
+use beta_poly::{Mono, Poly, PolyFault, Symbol};
 use frac128::Frac;
 use std::alloc::{AllocError, Global};
 use std::cmp::Ordering;
 use std::process::Abort;
+use std::test::Fail;
 
 /// A symbol by its id, and whether it is a conjugate. The first three ids are real couplings.
 type Factor = (u16, bool);
 
 const LARGEST: i128 = i128::MAX;
 
-/// The monomials of the one-loop beta function of the element 1,2 of a complex 3 by 3 matrix Yu, in a
-/// model with three gauge couplings (0 to 2) and the matrices Yu (3 to 11), Yd (12 to 20) and
-/// Ye (21 to 29), row by row: in the canonical order, read off the vectors of exponents by hand.
-const LINE: [[Factor; 3]; 40] = [
-    [(0, false), (0, false), (4, false)], // g1^2 Yu12
-    [(1, false), (1, false), (4, false)], // g2^2 Yu12
-    [(2, false), (2, false), (4, false)], // g3^2 Yu12
-    [(3, false), (3, true), (4, false)], // Yu11 conj(Yu11) Yu12
-    [(3, false), (6, true), (7, false)], // Yu11 conj(Yu21) Yu22
-    [(3, false), (9, true), (10, false)], // Yu11 conj(Yu31) Yu32
-    [(4, false), (4, true), (4, false)], // Yu12^2 conj(Yu12)
-    [(4, false), (5, false), (5, true)], // Yu12 Yu13 conj(Yu13)
-    [(4, false), (6, false), (6, true)], // Yu12 Yu21 conj(Yu21)
-    [(4, false), (7, false), (7, true)], // Yu12 Yu22 conj(Yu22)
-    [(4, false), (8, false), (8, true)], // Yu12 Yu23 conj(Yu23)
-    [(4, false), (9, false), (9, true)], // Yu12 Yu31 conj(Yu31)
-    [(4, false), (10, false), (10, true)], // Yu12 Yu32 conj(Yu32)
-    [(4, false), (11, false), (11, true)], // Yu12 Yu33 conj(Yu33)
-    [(4, false), (12, false), (12, true)], // Yu12 Yd11 conj(Yd11)
-    [(4, false), (13, false), (13, true)], // Yu12 Yd12 conj(Yd12)
-    [(4, false), (14, false), (14, true)], // Yu12 Yd13 conj(Yd13)
-    [(4, false), (15, false), (15, true)], // Yu12 Yd21 conj(Yd21)
-    [(4, false), (16, false), (16, true)], // Yu12 Yd22 conj(Yd22)
-    [(4, false), (17, false), (17, true)], // Yu12 Yd23 conj(Yd23)
-    [(4, false), (18, false), (18, true)], // Yu12 Yd31 conj(Yd31)
-    [(4, false), (19, false), (19, true)], // Yu12 Yd32 conj(Yd32)
-    [(4, false), (20, false), (20, true)], // Yu12 Yd33 conj(Yd33)
-    [(4, false), (21, false), (21, true)], // Yu12 Ye11 conj(Ye11)
-    [(4, false), (22, false), (22, true)], // Yu12 Ye12 conj(Ye12)
-    [(4, false), (23, false), (23, true)], // Yu12 Ye13 conj(Ye13)
-    [(4, false), (24, false), (24, true)], // Yu12 Ye21 conj(Ye21)
-    [(4, false), (25, false), (25, true)], // Yu12 Ye22 conj(Ye22)
-    [(4, false), (26, false), (26, true)], // Yu12 Ye23 conj(Ye23)
-    [(4, false), (27, false), (27, true)], // Yu12 Ye31 conj(Ye31)
-    [(4, false), (28, false), (28, true)], // Yu12 Ye32 conj(Ye32)
-    [(4, false), (29, false), (29, true)], // Yu12 Ye33 conj(Ye33)
-    [(5, false), (7, false), (8, true)], // Yu13 Yu22 conj(Yu23)
-    [(5, false), (10, false), (11, true)], // Yu13 Yu32 conj(Yu33)
-    [(7, false), (12, false), (15, true)], // Yu22 Yd11 conj(Yd21)
-    [(7, false), (13, false), (16, true)], // Yu22 Yd12 conj(Yd22)
-    [(7, false), (14, false), (17, true)], // Yu22 Yd13 conj(Yd23)
-    [(10, false), (12, false), (18, true)], // Yu32 Yd11 conj(Yd31)
-    [(10, false), (13, false), (19, true)], // Yu32 Yd12 conj(Yd32)
-    [(10, false), (14, false), (20, true)], // Yu32 Yd13 conj(Yd33)
-];
+/// The monomials of the one-loop beta function of the element 1,2 of a complex 3 by 3 matrix Yu, in a model with three gauge
+/// couplings (0 to 2) and the matrices Yu (3 to 11), Yd (12 to 20) and Ye (21 to 29), row by row: in the canonical order,
+/// read off the vectors of exponents by hand. So the first is g1^2 Yu[1,2], and the fourth Yu[1,1] conj(Yu[1,1]) Yu[1,2].
+const LINE: &str = "
+0 0 4
+1 1 4
+2 2 4
+3 3~ 4
+3 6~ 7
+3 9~ 10
+4 4~ 4
+4 5 5~
+4 6 6~
+4 7 7~
+4 8 8~
+4 9 9~
+4 10 10~
+4 11 11~
+4 12 12~
+4 13 13~
+4 14 14~
+4 15 15~
+4 16 16~
+4 17 17~
+4 18 18~
+4 19 19~
+4 20 20~
+4 21 21~
+4 22 22~
+4 23 23~
+4 24 24~
+4 25 25~
+4 26 26~
+4 27 27~
+4 28 28~
+4 29 29~
+5 7 8~
+5 10 11~
+7 12 15~
+7 13 16~
+7 14 17~
+10 12 18~
+10 13 19~
+10 14 20~
+";
 
 fn symbol(factor: Factor) -> Symbol
     ensures { IsTrue result.real → result.conj ≡ false }
@@ -105,22 +106,43 @@ fn at(rt: &impl Abort, alloc: Global, p: &Poly, a: Factor, b: Factor) -> i128 {
     p.coefficient(&both).num()
 }
 
-// Each monomial is built from its factors in another order, and they are added in a shuffled order.
+/// The symbol that a word names.
+fn factor(rt: &impl Abort, word: &str) -> Factor {
+    let conj = word.ends_with('~');
+    let digits = word.strip_suffix('~').unwrap_or(word);
+    (digits.parse::<u16>().ok().expect(rt, "a symbol"), conj)
+}
+
+/// The monomials of the rows, each built from its factors in another order.
+fn monomials(rt: &impl Abort, alloc: Global) -> Result<Vec<Mono>, AllocError> {
+    let mut monomials = Vec::new(alloc);
+    for row in LINE.lines().skip(1) {
+        let mut words = row.split(' ');
+        let a = factor(rt, words.next().unwrap_or(""));
+        let b = factor(rt, words.next().unwrap_or(""));
+        let c = factor(rt, words.next().unwrap_or(""));
+        monomials.push(product_of(alloc, [c, a, b])?)?;
+    }
+    Ok(monomials)
+}
+
+// They are added in a shuffled order.
 #[test]
-fn the_monomials_of_a_line_stand_in_the_canonical_order(rt: HostRuntime) {
+fn the_monomials_of_a_line_stand_in_the_canonical_order(rt: HostRuntime) -> Result<(), Fail> {
     let alloc = rt.alloc();
+    let monomials = monomials(&rt, alloc)?;
+    assert_eq!(rt; monomials.len(), 40);
     let mut sum = Poly::zero(alloc);
     for step in 0..40usize {
         let place = step * 17 % 40;
-        let [a, b, c] = LINE[place];
-        let mono = product_of(alloc, [c, a, b]).expect(&rt, "memory");
-        let term = Poly::term(alloc, &mono, Frac::whole(place as i64 + 1)).expect(&rt, "memory");
-        sum = sum.add(alloc, &term).expect(&rt, "the sum");
+        let term = Poly::term(alloc, &monomials[place], Frac::whole(place as i64 + 1))?;
+        sum = sum.add(alloc, &term).ok().expect(&rt, "the sum");
     }
     assert_eq!(rt; sum.len(), 40);
     for place in 0..sum.len() {
         assert_eq!(rt; sum.item(place).1.num(), place as i128 + 1);
     }
+    Ok(())
 }
 
 // (x + y) (x - y) is x^2 - y^2, where x is real and y complex: the terms with both cancel.
