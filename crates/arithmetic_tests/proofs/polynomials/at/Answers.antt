@@ -1,6 +1,6 @@
 use Rattle.std.proofs.Common.{arith}
 use Rattle.beta_poly.proofs.ExponentLaws.{exponents_fit_within, within_power}
-use Rattle.beta_poly.proofs.tests.at.Goals as goal
+use Rattle.arithmetic_tests.proofs.polynomials.at.Goals as goal
 
 pub times-requires : goal.times-requires
 times-requires g c =

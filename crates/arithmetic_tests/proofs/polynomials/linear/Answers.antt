@@ -2,7 +2,7 @@ use Rattle.std.proofs.Common.{◌≡◌, subst, sym}
 use Rattle.beta_poly.specs.Polynomial.{term}
 use Rattle.beta_poly.specs.Exponents.{AllWithin}
 use Rattle.beta_poly.proofs.ExponentLaws.{AllWithin-term, within_power}
-use Rattle.beta_poly.proofs.tests.linear.Goals as goal
+use Rattle.arithmetic_tests.proofs.polynomials.linear.Goals as goal
 
 pub returns : goal.returns
 returns g c =

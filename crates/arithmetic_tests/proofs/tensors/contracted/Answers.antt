@@ -1,7 +1,7 @@
 use Rattle.std.proofs.Common.{rules}
 use Rattle.sparse_tensor.specs.Constants.{AllConstant}
-use Rattle.sparse_tensor.proofs.ConstantLaws.{constants_fit}
-use Rattle.sparse_tensor.proofs.tests.contracted.Goals as goal
+use Rattle.arithmetic_tests.proofs.ConstantLaws.{constants_fit}
+use Rattle.arithmetic_tests.proofs.tensors.contracted.Goals as goal
 
 pub contract-joined-requires-clause-fits : goal.contract-joined-requires-clause-fits
 contract-joined-requires-clause-fits g c =

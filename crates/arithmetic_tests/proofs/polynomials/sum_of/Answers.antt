@@ -2,7 +2,7 @@ use Rattle.std.proofs.Common.{◌≡◌, subst, sym}
 use Rattle.beta_poly.specs.Polynomial.{add_poly}
 use Rattle.beta_poly.specs.Exponents.{AllWithin}
 use Rattle.beta_poly.proofs.ExponentLaws.{AllWithin-add}
-use Rattle.beta_poly.proofs.tests.sum_of.Goals as goal
+use Rattle.arithmetic_tests.proofs.polynomials.sum_of.Goals as goal
 
 pub returns : goal.returns
 returns g c =

@@ -1,6 +1,6 @@
 use Rattle.std.proofs.Common.{sym, ◌∙◌}
-use Rattle.sparse_tensor.proofs.ConstantLaws.{constant_of, no_powers}
-use Rattle.sparse_tensor.proofs.tests.is_constant.Goals as goal
+use Rattle.arithmetic_tests.proofs.ConstantLaws.{constant_of, no_powers}
+use Rattle.arithmetic_tests.proofs.tensors.is_constant.Goals as goal
 
 pub returns : goal.returns
 returns c = λ h.
