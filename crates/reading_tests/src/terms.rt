@@ -1,12 +1,11 @@
-//! The terms that well-formed ones stand for, and the limits of lengths and counts.
-use crate::fault_tests::{check_remark, fault_of, joined, number, with_line_breaks};
-use crate::term_tests::HEAD;
-use crate::{ReadError, read_model};
-use frac128::{ByteList, Frac, NumberList};
+//! Well-formed terms, and what they stand for.
+use crate::tables::{HEAD, check_remark, tell_fraction, tell_number};
+use frac128::{ByteList, NumberList};
 use model_core::{Factor, Generation, Monomial, Shape, Term, TermKind};
+use model_reader::{ReadError, read_model};
 use std::alloc::{AllocError, Global};
 
-/// Terms in that file, and what they stand for: the coupling, its text in LaTeX, the words for `value` and `shape`, rows
+/// Terms in the file that begins with `HEAD`, and what they stand for: the coupling, its text in LaTeX, the words for `value` and `shape`, rows
 /// and columns, the kind, and then each monomial. A field is F or S with its place, an `eps` is E, a table t with its
 /// place; r and c stand for row and column, and the numbers of labels have a dot before them.
 const TERMS: &str = r"
@@ -61,11 +60,6 @@ const TERMS: &str = r"
 # Terms in file order.
 {coupling='z',text='N M S'},{coupling='y',text='S S S S'},{coupling='x',text='M M S'} => z z real one 1 1 fermion | 1/1 F0[1] F1[1] S0[1];y y real one 1 1 scalar | 1/1 S0[1] S0[1] S0[1] S0[1];x x real one 1 1 fermion | 1/1 F1[1] F1[1] S0[1];
 ";
-
-fn tell_number(alloc: Global, line: &mut ByteList, number: u32) -> Result<(), AllocError> {
-    let text = format!(in alloc; "{number}")?;
-    line.extend(text.as_bytes())
-}
 
 fn tell_labels(alloc: Global, line: &mut ByteList, labels: &NumberList) -> Result<(), AllocError> {
     for label in labels.as_slice() {
@@ -127,14 +121,6 @@ fn tell_factor(alloc: Global, line: &mut ByteList, factor: &Factor) -> Result<()
             tell_labels(alloc, line, labels)
         }
     }
-}
-
-/// The numerator and the denominator, also where it is 1.
-fn tell_fraction(alloc: Global, line: &mut ByteList, fraction: Frac) -> Result<(), AllocError> {
-    let num = fraction.num();
-    let den = fraction.den();
-    let text = format!(in alloc; "{num}/{den}")?;
-    line.extend(text.as_bytes())
 }
 
 fn tell_monomial(
@@ -215,227 +201,12 @@ fn terms(rt: HostRuntime) -> Result<(), AllocError> {
             check_remark(&rt, row);
             continue;
         };
-        let file = joined(rt.alloc(), &[HEAD, "term=[", terms, "]"])?;
+        let mut file = ByteList::new(rt.alloc());
+        for piece in [HEAD, "term=[", terms, "]"] {
+            file.extend(piece.as_bytes())?;
+        }
         let line = terms_of(rt.alloc(), file.as_slice())?;
         assert_eq!(rt; line.as_slice(), told.as_bytes(), "{terms}");
-    }
-    Ok(())
-}
-
-/// The front of a text, how often what follows stands behind it, its end, and the fault.
-const LENGTHS: &str = "
-# Bytes: 7 + 4089 are the most. They are counted before anything else of the text.
-S S S S|4089| | => fine
-|4089| |S S S S => fine
-S S S S|4090| | => OverLimit term 1 7 4097
-|4096|$| => BadTermText term 1 0 0
-|4097|$| => OverLimit term 1 7 4097
-|2048|é| => BadTermText term 1 0 0
-|2049|é| => OverLimit term 1 7 4098
-|4096|S| => UnknownField term 1 0 0
-|4096|9| => BadTermText term 1 4096 0
-|4095|9|S => BadNumber term 1 0 0
-T[|4000|9|] P P P => WrongSlots term 1 0 0
-T[|4000|0|2] P P P => fine
-|2048|S | => WrongContent term 1 0 0
-S S S S|1000000|X| => OverLimit term 1 7 1000007
-# Monomials: 16 are the most. They are counted once the whole text is a sum.
-S S S S|15| + S S S S| => fine
-S S S S|16| + S S S S| => OverLimit term 1 7 17
-X|15|+X| => UnknownField term 1 0 0
-X|16|+X| => OverLimit term 1 7 17
-s s s s s|17|-1/0 X| => OverLimit term 1 7 18
-S|2047|+S| => OverLimit term 1 7 2048
-S|16|+S|+ => BadTermText term 1 34 0
-S|16|+S| eps~ => BadTermText term 1 37 0
-# Factors of a monomial.
-S S S S|2000| s| => OverLimit term 1 7 2000
-";
-
-/// A text of a front, a piece so many times, and an end, as a row writes it with bars between them.
-fn put_text(alloc: Global, file: &mut ByteList, row: &str) -> Result<(), AllocError> {
-    let mut parts = row.split('|');
-    let front = parts.next().unwrap_or("");
-    let count = number(parts.next().unwrap_or(""));
-    let piece = parts.next().unwrap_or("");
-    let end = parts.next().unwrap_or("");
-    file.extend(front.as_bytes())?;
-    for _ in 0..count {
-        file.extend(piece.as_bytes())?;
-    }
-    file.extend(end.as_bytes())
-}
-
-#[test]
-fn lengths(rt: HostRuntime) -> Result<(), AllocError> {
-    for row in LENGTHS.lines() {
-        let Some((text, fault)) = row.split_once(" => ") else {
-            check_remark(&rt, row);
-            continue;
-        };
-        let mut file = joined(rt.alloc(), &[HEAD, "term=[{coupling='k',text=\""])?;
-        put_text(rt.alloc(), &mut file, text)?;
-        file.extend(b"\"}]")?;
-        let line = fault_of(rt.alloc(), file.as_slice())?;
-        assert_eq!(rt; line.as_slice(), fault.as_bytes(), "{row}");
-    }
-    Ok(())
-}
-
-/// Puts so many terms behind the text. Of 72 no block has more than four.
-fn put_terms(alloc: Global, text: &mut ByteList, count: u32) -> Result<(), AllocError> {
-    for i in 0..count {
-        let a = i % 3 + 1;
-        let b = i / 3 % 2 + 1;
-        let c = i / 6 % 3 + 1;
-        let term = format!(in alloc; "{{coupling='k{i}',text='L[{a}] V[{b}] R[{c}]'}},")?;
-        text.extend(term.as_bytes())?;
-    }
-    Ok(())
-}
-
-/// How many terms there are before the last, the last, and the fault.
-const COUNTS: &str = "
-64| => fine
-63|{coupling='l',text='S S S S'} => fine
-63|{} => MissingKey term 64 1 0
-64|{} => OverLimit file 0 7 65
-65| => OverLimit file 0 7 65
-65|1 => WrongType file 0 7 0
-20000| => OverLimit file 0 7 20000
-";
-
-/// Puts terms behind the text: how many there are before the last, and the last.
-fn put_row(alloc: Global, file: &mut ByteList, row: &str) -> Result<(), AllocError> {
-    let Some((count, last)) = row.split_once('|') else {
-        return Ok(());
-    };
-    put_terms(alloc, file, number(count))?;
-    file.extend(last.as_bytes())
-}
-
-#[test]
-fn counts_of_terms(rt: HostRuntime) -> Result<(), AllocError> {
-    for row in COUNTS.lines() {
-        let Some((terms, fault)) = row.split_once(" => ") else {
-            check_remark(&rt, row);
-            continue;
-        };
-        let mut file = joined(rt.alloc(), &[HEAD, "term=["])?;
-        put_row(rt.alloc(), &mut file, terms)?;
-        file.extend(b"]")?;
-        let line = fault_of(rt.alloc(), file.as_slice())?;
-        assert_eq!(rt; line.as_slice(), fault.as_bytes(), "{row}");
-    }
-    Ok(())
-}
-
-/// What stands before 65 terms: too many terms come before the faults of groups and fields, and after those of the keys
-/// before.
-const BEFORE_TERMS: &str = "
- => OverLimit file 0 7 65
-group=[{x=1}]@fermion=[{}]@ => OverLimit file 0 7 65
-table=1@ => WrongType file 0 6 0
-";
-
-#[test]
-fn counts_of_terms_come_first(rt: HostRuntime) -> Result<(), AllocError> {
-    for row in BEFORE_TERMS.lines() {
-        let Some((parts, fault)) = row.split_once(" => ") else {
-            check_remark(&rt, row);
-            continue;
-        };
-        let mut file = with_line_breaks(rt.alloc(), "profile=1\nname='m'\n", parts)?;
-        file.extend(b"term=[")?;
-        put_terms(rt.alloc(), &mut file, 65)?;
-        file.extend(b"]")?;
-        let line = fault_of(rt.alloc(), file.as_slice())?;
-        assert_eq!(rt; line.as_slice(), fault.as_bytes(), "{row}");
-    }
-    Ok(())
-}
-
-/// Puts so many couplings of a shape behind the text, each with a scalar of its own. A field X has six generations.
-fn put_couplings(
-    alloc: Global,
-    text: &mut ByteList,
-    shape: &str,
-    letter: &str,
-    count: u32,
-) -> Result<(), AllocError> {
-    for i in 0..count {
-        let term = format!(in alloc; "{{coupling='{letter}{i}',{shape} s{i}'}},")?;
-        text.extend(term.as_bytes())?;
-    }
-    Ok(())
-}
-
-/// What stands in such a coupling before its scalar.
-fn coupling_of(shape: &str) -> &'static str {
-    match shape {
-        "matrix" => "shape='matrix',flavour=['i','j'],text='X[i] X[j]",
-        "complex" => "value='complex',shape='matrix',flavour=['i','j'],text='X[i] X[j]",
-        "symmetric" => "shape='symmetric',flavour=['i','j'],text='X[i] X[j]",
-        _ => "text='X[2] X[2]",
-    }
-}
-
-/// A shape, how many couplings have it and how many are single, what stands behind these, and the fault. A matrix has 36
-/// symbols and a symmetric one 21; a file may have 400.
-const SYMBOLS: &str = "
-matrix|11|0| => fine
-matrix|11|4| => fine
-matrix|11|5| => OverLimit term 0 0 401
-matrix|12|0| => OverLimit term 0 0 432
-matrix|12|12| => OverLimit term 0 0 444
-# Conjugates don't count.
-complex|11|4| => fine
-complex|12|0| => OverLimit term 0 0 432
-symmetric|12|12| => fine
-# They are counted after the last term.
-matrix|12|0|{} => MissingKey term 13 1 0
-matrix|12|0|{coupling='l',text='X[1] s1 s1'} => WrongContent term 13 0 0
-matrix|12|0|{coupling='l',text='X[1] X[1]'} => OverLimit term 0 0 433
-complex|12|0|{coupling='l',text='X[1] X[6] s4'} => OverLimit term 13 0 5
-";
-
-/// Twelve real scalars.
-fn put_scalars(alloc: Global, file: &mut ByteList) -> Result<(), AllocError> {
-    for i in 0..12u32 {
-        let scalar = format!(in alloc; "{{name='s{i}',real=true}},")?;
-        file.extend(scalar.as_bytes())?;
-    }
-    Ok(())
-}
-
-/// The couplings of a row.
-fn put_symbols(alloc: Global, file: &mut ByteList, row: &str) -> Result<(), AllocError> {
-    let mut parts = row.split('|');
-    let shape = coupling_of(parts.next().unwrap_or(""));
-    let count = number(parts.next().unwrap_or(""));
-    let singles = number(parts.next().unwrap_or(""));
-    let last = parts.next().unwrap_or("");
-    put_couplings(alloc, file, shape, "m", count)?;
-    put_couplings(alloc, file, coupling_of("single"), "k", singles)?;
-    file.extend(last.as_bytes())
-}
-
-#[test]
-fn counts_of_symbols(rt: HostRuntime) -> Result<(), AllocError> {
-    let alloc = rt.alloc();
-    for row in SYMBOLS.lines() {
-        let Some((couplings, fault)) = row.split_once(" => ") else {
-            check_remark(&rt, row);
-            continue;
-        };
-        let head = "profile=1\nname='m'\nfermion=[{name='X',generations=6}]\nscalar=[";
-        let mut file = joined(alloc, &[head])?;
-        put_scalars(alloc, &mut file)?;
-        file.extend(b"]\nterm=[")?;
-        put_symbols(alloc, &mut file, couplings)?;
-        file.extend(b"]")?;
-        let line = fault_of(alloc, file.as_slice())?;
-        assert_eq!(rt; line.as_slice(), fault.as_bytes(), "{row}");
     }
     Ok(())
 }

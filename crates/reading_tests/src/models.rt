@@ -1,8 +1,8 @@
 //! Well-formed files, and the models that they stand for.
-use crate::fault_tests::{check_remark, with_line_breaks};
-use crate::{ReadError, read_model};
-use frac128::{ByteList, Frac};
+use crate::tables::{check_remark, tell_fraction, tell_number, with_line_breaks};
+use frac128::ByteList;
 use model_core::{Entry, Field, Group, Model, Table};
+use model_reader::{ReadError, read_model};
 use std::alloc::{AllocError, Global};
 use su_reps::Rep;
 
@@ -19,22 +19,10 @@ fn rep_word(rep: Rep) -> &'static str {
     }
 }
 
-fn tell_number(alloc: Global, line: &mut ByteList, number: u32) -> Result<(), AllocError> {
-    let text = format!(in alloc; " {number}")?;
-    line.extend(text.as_bytes())
-}
-
-/// The numerator and the denominator, also where it is 1.
-fn tell_fraction(alloc: Global, line: &mut ByteList, fraction: Frac) -> Result<(), AllocError> {
-    let num = fraction.num();
-    let den = fraction.den();
-    let text = format!(in alloc; " {num}/{den}")?;
-    line.extend(text.as_bytes())
-}
-
 fn tell_group(alloc: Global, line: &mut ByteList, group: &Group) -> Result<(), AllocError> {
     line.extend(b"; ")?;
     line.extend(group.name.as_bytes())?;
+    line.extend(b" ")?;
     tell_number(alloc, line, group.n)?;
     line.extend(b" ")?;
     line.extend(group.coupling.as_bytes())?;
@@ -45,7 +33,9 @@ fn tell_group(alloc: Global, line: &mut ByteList, group: &Group) -> Result<(), A
 fn tell_field(alloc: Global, line: &mut ByteList, field: &Field) -> Result<(), AllocError> {
     line.extend(b"; ")?;
     line.extend(field.name.as_bytes())?;
+    line.extend(b" ")?;
     tell_number(alloc, line, field.generations)?;
+    line.extend(b" ")?;
     tell_fraction(alloc, line, field.charge)?;
     for rep in field.reps.as_slice() {
         line.extend(rep_word(*rep).as_bytes())?;
@@ -58,6 +48,7 @@ fn tell_field(alloc: Global, line: &mut ByteList, field: &Field) -> Result<(), A
 
 fn tell_numbers(alloc: Global, line: &mut ByteList, numbers: &[u32]) -> Result<(), AllocError> {
     for number in numbers {
+        line.extend(b" ")?;
         tell_number(alloc, line, *number)?;
     }
     Ok(())
@@ -66,6 +57,7 @@ fn tell_numbers(alloc: Global, line: &mut ByteList, numbers: &[u32]) -> Result<(
 fn tell_entry(alloc: Global, line: &mut ByteList, entry: &Entry) -> Result<(), AllocError> {
     line.extend(b" at")?;
     tell_numbers(alloc, line, entry.at.as_slice())?;
+    line.extend(b" ")?;
     tell_fraction(alloc, line, entry.value)
 }
 
@@ -109,8 +101,9 @@ fn model_of(alloc: Global, file: &[u8]) -> Result<ByteList, AllocError> {
     Ok(line)
 }
 
-/// Whole files, and the parts of their models: the name; for each group its name, n, coupling and its text
-/// in LaTeX; for each field its name, generations, charge and a representation for each group.
+/// Whole files, `@` for a line break, and the parts of their models: the name; for each group its name, n, coupling and its text in LaTeX; for
+/// each field its name, generations, charge and a representation for each group; for each table its name, the place of each slot's group, and
+/// for each entry its numbers and its fraction.
 const MODELS: &str = r#"
 # No groups.
 profile=1@name='m' => m
@@ -145,11 +138,7 @@ profile=1@name='m'@group=[{name='u',n=1,coupling='a'},{name='b',n=2,coupling='g'
 profile=1@name='SM'@group=[{name='Y',n=1,coupling='g1'},{name='L',n=2,coupling='g2'},{name='c',n=3,coupling='g3'}]@fermion=[{name='Q',generations=3,charge='1/6',reps={L='fund',c='fund'}},{name='u',generations=3,charge='-2/3',reps={c='conj'}},{name='d',generations=3,charge='1/3',reps={c='conj'}},{name='E',generations=3,charge='-1/2',reps={L='fund'}},{name='e',generations=3,charge='1'}]@scalar=[{name='H',charge='1/2',reps={L='fund'}}] => SM; Y 1 g1 g1; L 2 g2 g2; c 3 g3 g3; Q 3 1/6 singlet fund fund; u 3 -2/3 singlet singlet conj; d 3 1/3 singlet singlet conj; E 3 -1/2 singlet fund singlet; e 3 1/1 singlet singlet singlet; H 1 1/2 singlet fund singlet scalar
 # A fermion and scalars with as many components as there may be.
 profile=1@name='m'@group=[{name='w',n=4,coupling='a'},{name='x',n=4,coupling='b'},{name='y',n=4,coupling='c'},{name='z',n=4,coupling='d'}]@fermion=[{name='q',generations=2,reps={w='fund',x='fund',y='fund',z='conj'}}]@scalar=[{name='H',generations=2,reps={x='fund',y='fund',z='conj'}}] => m; w 4 a a; x 4 b b; y 4 c c; z 4 d d; q 2 0/1 fund fund fund conj; H 2 0/1 singlet fund fund conj scalar
-"#;
-
-/// Whole files with tables, `@` for a line break, and the parts of their models: for each table its name, the place of each slot's group, and
-/// for each entry its numbers and its fraction.
-const TABLES: &str = "
+# Tables.
 profile=1@name='m'@table=[] => m
 # The places of groups are counted from 0, the U(1) included.
 profile=1@name='m'@group=[{name='c',n=2,coupling='g'}]@table=[{name='t',slots=['c'],entries=[]}] => m; c 2 g g; t slots 0
@@ -161,31 +150,9 @@ profile=1@name='m'@group=[{name='b',n=2,coupling='g'}]@[[table]]@name='t'@slots=
 profile=1@name='t'@table=[{name='t',slots=['c'],entries=[{at=[3],value='1/3'}]}]@scalar=[{name='T'}]@group=[{name='c',n=3,coupling='g'}] => t; c 3 g g; T 1 0/1 singlet scalar; t slots 0 at 3 1/3
 profile=1@name='m'@group=[{name='c',n=3,coupling='g'}]@table=[{name='T',slots=['c','c'],entries=[{at=[1,1],value='1/2'}]},{name='t',slots=['c','c'],entries=[{at=[1,1],value='1/2'},{at=[3,3],value='2/4'}]}] => m; c 3 g g; T slots 0 0 at 1 1 1/2; t slots 0 0 at 1 1 1/2 at 3 3 1/2
 profile=1@name='m'@group=[{name='c',n=3,coupling='g'}]@table=[{name='t',slots=['c','c'],entries=[{at=[1,3],value=1},{at=[1,4],value=1}]}] => malformed
-";
-
-#[test]
-fn models_with_tables(rt: HostRuntime) -> Result<(), AllocError> {
-    for row in TABLES.lines() {
-        let Some((file, model)) = row.split_once(" => ") else {
-            check_remark(&rt, row);
-            continue;
-        };
-        let file = with_line_breaks(rt.alloc(), "", file)?;
-        let line = model_of(rt.alloc(), file.as_slice())?;
-        assert_eq!(rt; line.as_slice(), model.as_bytes(), "{row}");
-    }
-    Ok(())
-}
-
-// Lines that end with 0x0D and 0x0A, and remarks.
-#[test]
-fn a_model_with_other_line_ends(rt: HostRuntime) -> Result<(), AllocError> {
-    let file =
-        b"# profile=2\r\nprofile=1 # one\r\nname='m'\r\n\r\ngroup=[\r\n  {name='c',n=3,coupling='g'}, # the only one\r\n]\r\n";
-    let line = model_of(rt.alloc(), file)?;
-    assert_eq!(rt; line.as_slice(), b"m; c 3 g g".as_slice());
-    Ok(())
-}
+# Remarks.
+# profile=2@profile=1 # one@name='m'@@group=[@  {name='c',n=3,coupling='g'}, # the only one@]@ => m; c 3 g g
+"#;
 
 #[test]
 fn models(rt: HostRuntime) -> Result<(), AllocError> {
@@ -194,7 +161,7 @@ fn models(rt: HostRuntime) -> Result<(), AllocError> {
             check_remark(&rt, row);
             continue;
         };
-        let file = with_line_breaks(rt.alloc(), "", file)?;
+        let file = with_line_breaks(rt.alloc(), file)?;
         let line = model_of(rt.alloc(), file.as_slice())?;
         assert_eq!(rt; line.as_slice(), model.as_bytes(), "{row}");
     }
