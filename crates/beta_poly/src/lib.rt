@@ -14,6 +14,3 @@ pub use laws::{monomials_stand_in_lexicographic_order, polynomials_are_a_commuta
 pub use monomial::Mono;
 pub use polynomial::Poly;
 pub use symbol::Symbol;
-
-#[cfg(test)]
-mod tests;

@@ -10,6 +10,3 @@ mod small;
 pub use frac::{Frac, FracFault, Overflow};
 pub use laws::rational_numbers_are_an_ordered_field;
 pub use lists::{ByteList, FailList, ItemList, NumberList};
-
-#[cfg(test)]
-mod tests;

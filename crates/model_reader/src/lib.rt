@@ -31,28 +31,3 @@ pub use error::ReadError;
 pub use model_core::{Part, ReadFault, ReadKind};
 pub use reader::read_model;
 pub use term_text::{ParsedSum, parse_sum};
-
-#[cfg(test)]
-mod fault_tests;
-#[cfg(test)]
-mod limit_tests;
-#[cfg(test)]
-mod literal_tests;
-#[cfg(test)]
-mod model_tests;
-#[cfg(test)]
-mod names_tests;
-#[cfg(test)]
-mod part_tests;
-#[cfg(test)]
-mod table_tests;
-#[cfg(test)]
-mod term_key_tests;
-#[cfg(test)]
-mod term_rule_tests;
-#[cfg(test)]
-mod term_tests;
-#[cfg(test)]
-mod term_text_tests;
-#[cfg(test)]
-mod term_value_tests;

@@ -14,6 +14,5 @@ mod Matches
 pub mod PutBack
 pub mod Exchanged
 mod Inserts
-mod ConstantLaws
 mod DenseLaws
 mod FunctionLaws

@@ -18,6 +18,3 @@ pub use laws::sparse_tensors_are_functions_of_keys;
 pub use links::{Link, LinkList};
 pub use sparse::Sparse;
 pub use values::{Value, ValueList};
-
-#[cfg(test)]
-mod tests;

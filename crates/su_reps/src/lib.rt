@@ -25,6 +25,3 @@ pub use entries::{action, projector};
 pub use laws::representations_of_su_n;
 pub use numbers::{casimir, cubic, dimension, doubled_index, index};
 pub use rep::{Rep, slots};
-
-#[cfg(test)]
-mod tests;
