@@ -69,18 +69,17 @@ conjugate_tensor model entry = conjugated entry.term.kind (entry_tensor model en
 
 -- ---- texts
 
--- the cells whose texts an entry has: its own, and [j,i] too where the shape is symmetric and i isn't j
-abbrev pub text_cells : CouplingEntry → List (ℕ × ℕ)
-text_cells entry =
-    if has_two_texts entry.term entry.row entry.column then (entry.row, entry.column) ∷ (entry.column, entry.row) ∷ []
-    else (entry.row, entry.column) ∷ []
+-- the cells whose texts the entry [i,j] has: its own, and [j,i] too where the shape is symmetric and i isn't j
+abbrev pub text_cells : Term → ℕ → ℕ → List (ℕ × ℕ)
+text_cells term row column =
+    if has_two_texts term row column then (row, column) ∷ (column, row) ∷ [] else (row, column) ∷ []
 
 -- the content and the tensor of the text at a cell
-abbrev pub cell_content : CouplingEntry → ℕ × ℕ → List FieldToken
-cell_content entry cell = content_at (first_uses entry.term.monomials) cell.0 cell.1
+abbrev pub cell_content : Term → ℕ × ℕ → List FieldToken
+cell_content term cell = content_at (first_uses term.monomials) cell.0 cell.1
 
-abbrev pub cell_tensor : Model → CouplingEntry → ℕ × ℕ → Numbers
-cell_tensor model entry cell = text_tensor model entry.term cell.0 cell.1
+abbrev pub cell_tensor : Model → Term → ℕ × ℕ → Numbers
+cell_tensor model term cell = text_tensor model term cell.0 cell.1
 
 -- ---- directions
 
@@ -102,23 +101,23 @@ at_key model kind f = at_places zero_ℚ (legs_of model kind) f
 
 -- the block of an entry, in which the contents of all its texts are
 abbrev pub entry_block : Model → CouplingEntry → List FieldToken
-entry_block model entry = block_of model (cell_content entry (entry.row, entry.column))
+entry_block model entry = block_of model (cell_content entry.term (entry.row, entry.column))
 
 -- the tensor of the text at a cell on the side of its content, and the conjugate tensor on that of the conjugate content
 abbrev pub plain_cell : Model → CouplingEntry → List ℕ → ℕ × ℕ → ℚ
 plain_cell model entry key cell =
-    on_side (side_of (entry_block model entry) (cell_content entry cell)) (at_key model entry.term.kind (cell_tensor model entry cell)) key
+    on_side (side_of (entry_block model entry) (cell_content entry.term cell)) (at_key model entry.term.kind (cell_tensor model entry.term cell)) key
 
 abbrev pub conjugate_cell : Model → CouplingEntry → List ℕ → ℕ × ℕ → ℚ
 conjugate_cell model entry key cell =
-    on_side (side_of (entry_block model entry) (conjugate_content model (cell_content entry cell))) (at_key model entry.term.kind (conjugated entry.term.kind (cell_tensor model entry cell))) key
+    on_side (side_of (entry_block model entry) (conjugate_content model (cell_content entry.term cell))) (at_key model entry.term.kind (conjugated entry.term.kind (cell_tensor model entry.term cell))) key
 
 -- the sums of these over the texts of an entry
 abbrev pub plain_part : Model → CouplingEntry → List ℕ → ℚ
-plain_part model entry key = sum ring_ℚ.semiring (text_cells entry) (plain_cell model entry key)
+plain_part model entry key = sum ring_ℚ.semiring (text_cells entry.term entry.row entry.column) (plain_cell model entry key)
 
 abbrev pub conjugate_part : Model → CouplingEntry → List ℕ → ℚ
-conjugate_part model entry key = sum ring_ℚ.semiring (text_cells entry) (conjugate_cell model entry key)
+conjugate_part model entry key = sum ring_ℚ.semiring (text_cells entry.term entry.row entry.column) (conjugate_cell model entry key)
 
 -- a real coupling of fermions, or of scalars with the conjugate added, moves both contents
 abbrev pub moves_both : Term → Bool

@@ -6,16 +6,16 @@ use Rattle.beta_poly.specs.Symbol.{conj_symbol}
 use Rattle.model_core.specs.Directions.{symbol_of, plain_part, conjugate_part, direction_of}
 use Rattle.term_expand.specs.Texts.{leg_count}
 use Rattle.term_expand.specs.Expansion.{AreDirections}
-use Rattle.term_expand.proofs.Sides.{on_side_keys, plain_meant, conjugate_meant, complex_directions}
+use Rattle.term_expand.proofs.Sides.{plain_keys, conjugate_keys, plain_meant, conjugate_meant, complex_directions}
 use Rattle.term_expand.proofs.directions.push_complex.Goals as goal
 
 pub push_direction-requires : goal.push_direction-requires
 push_direction-requires c =
-    subst (All (λ v. length v.key ≡ 1 + leg_count c.args.term.now.kind)) (sym c.in_ok-plain.ensures) (on_side_keys c.args.term.now.kind c.args.moves.now.plain_side c.args.moves.now.plain c.requires.plain)
+    subst (All (λ v. length v.key ≡ 1 + leg_count c.args.term.now.kind)) (sym c.in_ok-plain.ensures) (plain_keys c.args.term.now.kind c.args.moves.now.texts c.requires)
 
 pub push_direction-requires-2 : goal.push_direction-requires-2
 push_direction-requires-2 c =
-    subst (All (λ v. length v.key ≡ 1 + leg_count c.args.term.now.kind)) (sym c.in_ok-other.ensures) (on_side_keys c.args.term.now.kind c.args.moves.now.conjugate_side c.args.moves.now.conjugate c.requires.conjugate)
+    subst (All (λ v. length v.key ≡ 1 + leg_count c.args.term.now.kind)) (sym c.in_ok-other.ensures) (conjugate_keys c.args.term.now.kind c.args.moves.now.texts c.requires)
 
 pub returns-clause-value : goal.returns-clause-value
 returns-clause-value c model e before terms places symbols real is so_far =

@@ -9,7 +9,7 @@ use Rattle.term_expand.proofs.directions.push_real.Goals as goal
 
 pub push_direction-requires : goal.push_direction-requires
 push_direction-requires c =
-    subst (All (λ v. length v.key ≡ 1 + leg_count c.args.term.now.kind)) (sym c.in_ok-values.ensures) (real_keys c.args.term.now c.args.moves.now c.requires)
+    subst (All (λ v. length v.key ≡ 1 + leg_count c.args.term.now.kind)) (sym c.in_ok-values.ensures) (real_keys c.args.term.now c.args.moves.now.texts c.requires)
 
 pub returns-clause-value : goal.returns-clause-value
 returns-clause-value c model e before terms places symbols real is so_far =
