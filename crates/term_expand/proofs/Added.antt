@@ -257,8 +257,8 @@ scalar_keys Scalar hc symbol texts ranks = all_keys Scalar hc symbol texts ranks
 pub ranks_of : (model : Model) (term : Term) (block : List FieldToken) (cells : List (ℕ × ℕ)) (texts : List Text) → AreTexts model term block cells texts → HaveRanks term.kind texts
 ranks_of model term block [] [] are = tt
 ranks_of model term block [] (text ∷ texts) are = absurd are
-ranks_of model term block (cell ∷ cells) [] are = absurd are
-ranks_of model term block (cell ∷ cells) (text ∷ texts) are = (record { plain = are.0.plain.rank_is; conjugate = are.0.conjugate.rank_is }, ranks_of model term block cells texts are.1)
+ranks_of model term block (cell ∷ others) [] are = absurd are
+ranks_of model term block (cell ∷ others) (text ∷ texts) are = (record { plain = are.0.plain.rank_is; conjugate = are.0.conjugate.rank_is }, ranks_of model term block others texts are.1)
 
 -- values put behind others
 adds_behind : (legs : ℕ) (more : List ℕ → Polynomial) (old new values : List Value) → new ≡ old ++ values → All (λ v. length v.key ≡ legs) values → ((key : List ℕ) → length key ≡ legs → gathered_at (map entry values) key ≡ more key) → AddsValues legs more old new

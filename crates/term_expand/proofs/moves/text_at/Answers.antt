@@ -13,8 +13,8 @@ returns-clause-value c =
     let block = c.args.block.now in
     let f = cell_tensor model term (c.args.row, c.args.column) in
     record {
-      plain_side = c.side_of-plain_side.ensures ∙ ap (side_of block) c.in_ok-content.ensures;
+      plain_side = c.side_of-plain_side.ensures ∙ ap (side_of block) (c.as_slice-2.ensures ∙ c.in_ok-content.ensures);
       plain = c.in_ok-plain.ensures.value;
-      conjugate_side = c.side_of-conjugate_side.ensures ∙ ap (side_of block) (c.in_ok-other.ensures ∙ ap (conjugate_content model) c.in_ok-content.ensures);
+      conjugate_side = c.side_of-conjugate_side.ensures ∙ ap (side_of block) (c.as_slice-3.ensures ∙ c.in_ok-other.ensures ∙ ap (conjugate_content model) (c.as_slice.ensures ∙ c.in_ok-content.ensures));
       conjugate = IfOk-at_ok (HasNumbers model term.kind (conjugated term.kind f)) c.in_ok-conjugate.was (c.conjugate.ensures.value f c.in_ok-plain.ensures.value);
     }
