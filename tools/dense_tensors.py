@@ -193,27 +193,35 @@ def main(data):
                 size[flavour.index(bracket)] = field.get("generations", 1)
         for row in range(1, size[0] + 1):
             for column in range(row if shape == "symmetric" else 1, size[1] + 1):
-                plain = text_tensor(model, term, row, column, fermionic)
-                if shape == "symmetric" and row != column:
-                    plain = add(plain, text_tensor(model, term, column, row, fermionic))
-                other = {tuple(model.partner(c) for c in k): v for k, v in plain.items()}
-                token = []
-                for w, conj, bracket, _ in uses:
-                    g = dict(zip(flavour, (row, column))).get(bracket, bracket)
-                    if w in fermions:
-                        token.append(("f", fermions[w], conj, int(g or 1)))
-                    elif w in scalars:
-                        token.append(("s", scalars[w], conj, int(g or 1)))
-                content = sorted(token)
-                conjugate = sorted(model.conjugate_token(t) for t in content)
-                block = min(content, conjugate)
+                cells = [(row, column)] + ([(column, row)] if shape == "symmetric" and row != column else [])
+
+                def content_at(cell):
+                    token = []
+                    for w, conj, bracket, _ in uses:
+                        g = dict(zip(flavour, cell)).get(bracket, bracket)
+                        if w in fermions:
+                            token.append(("f", fermions[w], conj, int(g or 1)))
+                        elif w in scalars:
+                            token.append(("s", scalars[w], conj, int(g or 1)))
+                    return sorted(token)
+
+                def conjugate_of(content):
+                    return sorted(model.conjugate_token(t) for t in content)
+                block = min(content_at(cells[0]), conjugate_of(content_at(cells[0])))
                 legs = 3 if fermionic else 4
 
                 def key_of(k):
                     return tuple(place[("f" if c[0] == "f" else "s", c)] for c in k)
 
-                def sided(side, tensor):
-                    return {(0 if side == block else 1,) + key_of(k): v for k, v in tensor.items()}
+                def sided(content, tensor):
+                    return {(0 if content == block else 1,) + key_of(k): v for k, v in tensor.items()}
+                plain, other, moved, conjugate_moved = {}, {}, {}, {}
+                for cell in cells:
+                    text = text_tensor(model, term, *cell, fermionic)
+                    conjugate = {tuple(model.partner(c) for c in k): v for k, v in text.items()}
+                    plain, other = add(plain, text), add(other, conjugate)
+                    moved = add(moved, sided(content_at(cell), text))
+                    conjugate_moved = add(conjugate_moved, sided(conjugate_of(content_at(cell)), conjugate))
                 both = fermionic or term.get("hc", False)
                 total = sums[fermionic]
                 for symbol, tensor in [(f"{identity}", plain)] + ([(f"{identity}" if real else f"{identity}~", other)] if not fermionic and both else []):
@@ -222,11 +230,10 @@ def main(data):
                         poly[symbol] = poly.get(symbol, 0) + v
                 name = " ".join(name_of(t) for t in block + [("#",)] * (legs - len(block)))
                 if real:
-                    moved = add(sided(content, plain), sided(conjugate, other)) if both else sided(content, plain)
-                    directions.append((number, f"{identity}", name, moved))
+                    directions.append((number, f"{identity}", name, add(moved, conjugate_moved) if both else moved))
                 else:
-                    directions.append((number, f"{identity}", name, sided(content, plain)))
-                    directions.append((number, f"{identity}~", name, sided(conjugate, other)))
+                    directions.append((number, f"{identity}", name, moved))
+                    directions.append((number, f"{identity}~", name, conjugate_moved))
                 identity += 1
     lines = []
     for title, fermionic in (("yukawa", True), ("scalar", False)):

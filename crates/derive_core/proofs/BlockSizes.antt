@@ -12,7 +12,7 @@ use Rattle.model_core.specs.declared.term.Term.{Term}
 use Rattle.model_core.specs.declared.term.TermKind.{TermKind}
 use Rattle.model_core.specs.declared.term.TermKind.TheVariants.{Fermion, Scalar}
 use Rattle.model_core.specs.Content.{is_fermion, may_couple, same_uses, has_content, first_uses, token_cmp, is_before, inserted, sorted, token_at, content_at, conjugate_token, conjugate_content, content_cmp, block_of}
-use Rattle.model_core.specs.Directions.{CouplingEntry, Direction, entry_content, entry_block}
+use Rattle.model_core.specs.Directions.{CouplingEntry, Direction, cell_content, entry_block}
 use Rattle.model_core.specs.Factors.{uses}
 use Rattle.model_core.specs.Groups.{is_between}
 use Rattle.model_core.specs.TermRules.{has_monomials, has_shape, has_one_content, has_good_monomials, has_good_coupling, is_term}
@@ -50,7 +50,7 @@ length-block_of model content = by_order (is_before (content_cmp (conjugate_cont
     by_order false = refl
 
 length-entry_block : (model : Model) (e : CouplingEntry) → length (entry_block model e) ≡ length (first_uses e.term.monomials)
-length-entry_block model e = length-block_of model (entry_content e) ∙ length-content_at (first_uses e.term.monomials) e.row e.column
+length-entry_block model e = length-block_of model (cell_content e.term (e.row, e.column)) ∙ length-content_at (first_uses e.term.monomials) e.row e.column
 
 -- ---- what a term may have
 

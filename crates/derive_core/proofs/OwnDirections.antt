@@ -2,6 +2,8 @@
 use Rattle.std.specs.Prelude.{◌≡◌, ◌≢◌, ◌+◌, ◌==◌, if◌then◌else◌, ℕ, suc, Bool, true, false, List, [], ◌∷◌, length, slice_get, Option, Some, None}
 use Rattle.std.specs.List.{flat_map}
 use Rattle.std.proofs.Common.{refl, sym, ap, ap₂, subst, ◌∙◌, arith, inl, inr}
+use mathlib.Core.Path.{fun_ext}
+use Rattle.exact_algebra.specs.Sums.{sum, sum-zero}
 use Rattle.frac128.specs.Rational.{ℚ, zero_ℚ, ◌+ℚ◌}
 use Rattle.frac128.specs.RationalLaws.{ring_ℚ}
 use Rattle.beta_poly.specs.declared.symbol.Symbol.{Symbol}
@@ -10,8 +12,10 @@ use Rattle.model_core.specs.declared.model.Model.{Model}
 use Rattle.model_core.specs.declared.term.TermKind.{TermKind}
 use Rattle.model_core.specs.declared.term.TermKind.TheVariants.{Fermion, Scalar}
 use Rattle.model_core.specs.Scalar.{Coordinate}
+use Rattle.model_core.specs.BlockSide.{side_of}
+use Rattle.model_core.specs.Content.{conjugate_content}
 use Rattle.model_core.specs.TermTensor.{Numbers, legs_of, with_coordinate, coordinates_at, value_or, at_places}
-use Rattle.model_core.specs.Directions.{CouplingEntry, Direction, symbol_of, entry_tensor, conjugate_tensor, entry_block, on_side, plain_part, conjugate_part, moves_both, real_part, direction_of, entry_directions, entries, directions}
+use Rattle.model_core.specs.Directions.{CouplingEntry, Direction, symbol_of, text_cells, cell_content, cell_tensor, conjugated, entry_block, on_side, plain_part, conjugate_part, moves_both, real_part, direction_of, entry_directions, entries, directions}
 use Rattle.term_expand.specs.Texts.{leg_count}
 use Rattle.derive_core.proofs.Elements.{IsIn, in-flat_map}
 
@@ -57,11 +61,16 @@ part_elsewhere model kind side f (first ∷ key) other =
     other long)))
 
 module _ (model : Model) (e : CouplingEntry) where
+  abbrev cells : List (ℕ × ℕ)
+  cells = text_cells e.term e.row e.column
+
   plain_elsewhere : (key : List ℕ) → length key ≢ 1 + leg_count e.term.kind → plain_part model e key ≡ zero_ℚ
-  plain_elsewhere key other = part_elsewhere model e.term.kind _ (entry_tensor model e) key other
+  plain_elsewhere key other =
+      ap (sum ring_ℚ.semiring cells) (fun_ext (λ cell. part_elsewhere model e.term.kind (side_of (entry_block model e) (cell_content e.term cell)) (cell_tensor model e.term cell) key other)) ∙ sum-zero ring_ℚ.semiring cells
 
   conjugate_elsewhere : (key : List ℕ) → length key ≢ 1 + leg_count e.term.kind → conjugate_part model e key ≡ zero_ℚ
-  conjugate_elsewhere key other = part_elsewhere model e.term.kind _ (conjugate_tensor model e) key other
+  conjugate_elsewhere key other =
+      ap (sum ring_ℚ.semiring cells) (fun_ext (λ cell. part_elsewhere model e.term.kind (side_of (entry_block model e) (conjugate_content model (cell_content e.term cell))) (conjugated e.term.kind (cell_tensor model e.term cell)) key other)) ∙ sum-zero ring_ℚ.semiring cells
 
   real_by : (b : Bool) (key : List ℕ) → length key ≢ 1 + leg_count e.term.kind → (if b then plain_part model e key +ℚ conjugate_part model e key else plain_part model e key) ≡ zero_ℚ
   real_by true key other = ap₂ ◌+ℚ◌ (plain_elsewhere key other) (conjugate_elsewhere key other) ∙ ring_ℚ.semiring.add_zero zero_ℚ

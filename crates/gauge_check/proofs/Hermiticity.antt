@@ -3,7 +3,9 @@ use Rattle.std.specs.Prelude.{◌≡◌, ◌+◌, ◌||◌, not, if◌then◌els
 use Rattle.std.specs.List.{flat_map, list_any, AllByRecursion, AllZip}
 use Rattle.std.proofs.Common.{refl, sym, ap, ap₂, subst, ◌∙◌, true≢false}
 use Rattle.std.proofs.lemmas.List.Folds.{list_any-append}
+use mathlib.Core.Path.{fun_ext}
 use Rattle.exact_algebra.specs.Ring.{zero_add}
+use Rattle.exact_algebra.specs.Sums.{sum, sum-add}
 use Rattle.frac128.specs.Rational.{ℚ, zero_ℚ, ◌+ℚ◌, eq_ℚ}
 use Rattle.frac128.specs.RationalLaws.{ring_ℚ}
 use Rattle.frac128.specs.RationalOrder.{Decides-eq_ℚ}
@@ -18,7 +20,7 @@ use Rattle.model_core.specs.declared.term.TermKind.TheVariants.{Fermion, Scalar}
 use Rattle.model_core.specs.Scalar.{Coordinate, partner}
 use Rattle.model_core.specs.TermTensor.{Numbers, legs_of, coordinates_at, value_or, at_places}
 use Rattle.model_core.specs.Content.{is_fermionic, conjugate_content, same_block}
-use Rattle.model_core.specs.Directions.{CouplingEntry, Direction, symbol_of, entry_tensor, conjugated, conjugate_tensor, on_side, entry_block, entry_content, plain_part, conjugate_part, moves_both, real_part, direction_of, entry_directions}
+use Rattle.model_core.specs.Directions.{CouplingEntry, Direction, symbol_of, text_cells, cell_content, cell_tensor, entry_tensor, conjugated, conjugate_tensor, on_side, at_key, entry_block, plain_cell, conjugate_cell, plain_part, conjugate_part, moves_both, real_part, direction_of, entry_directions}
 use Rattle.model_core.specs.Invariance.{keys_of, component_legs, differs, any_differs, hermitian_failure_at, hermitian_failures}
 use Rattle.model_core.specs.Invariance.Failure.{NotHermitian}
 use Rattle.model_core.proofs.CoordinateLaws.{partner_twice}
@@ -26,6 +28,7 @@ use Rattle.term_expand.specs.declared.directions.Direction.{Direction as Found}
 use Rattle.term_expand.specs.Expansion.{IsDirection, AreDirections}
 use Rattle.term_expand.specs.Texts.{leg_count}
 use Rattle.term_expand.proofs.Projections.{constants}
+use Rattle.term_expand.proofs.TextSums.{cells_at, conjugate_cells_at}
 use Rattle.gauge_check.specs.declared.fault.TermFault.TheVariants as fault
 use Rattle.gauge_check.specs.Faults.{fault_of}
 use Rattle.gauge_check.specs.Steps.{IsEntryOf, AreDirectionsOf, IsWhole, AreWhole, any_differs_at, IsFirstKey}
@@ -51,14 +54,21 @@ module _ (model : Model) (e : CouplingEntry) (scalar : e.term.kind ≡ Scalar) (
   abbrev numbers_at : Numbers → TermKind → List ℕ → ℚ
   numbers_at f kind key = at_places zero_ℚ (legs_of model kind) f key
 
+  abbrev cells : List (ℕ × ℕ)
+  cells = text_cells e.term e.row e.column
+
   plain_whole : (key : List ℕ) → plain_part model e (0 ∷ key) +ℚ plain_part model e (1 ∷ key) ≡ numbers_at (entry_tensor model e) Scalar key
   plain_whole key =
-      one_side (same_block (entry_content e) (entry_block model e)) (numbers_at (entry_tensor model e) e.term.kind) key
+      sym (sum-add ring_ℚ.semiring cells (plain_cell model e (0 ∷ key)) (plain_cell model e (1 ∷ key)))
+      ∙ ap (sum ring_ℚ.semiring cells) (fun_ext (λ cell. one_side (same_block (cell_content e.term cell) (entry_block model e)) (at_key model e.term.kind (cell_tensor model e.term cell)) key))
+      ∙ cells_at (cell_tensor model e.term) e.term e.row e.column (coordinates_at (legs_of model e.term.kind) key)
       ∙ ap (λ kind. numbers_at (entry_tensor model e) kind key) scalar
 
   conjugate_whole : (key : List ℕ) → conjugate_part model e (0 ∷ key) +ℚ conjugate_part model e (1 ∷ key) ≡ numbers_at (conjugate_tensor model e) Scalar key
   conjugate_whole key =
-      one_side (same_block (conjugate_content model (entry_content e)) (entry_block model e)) (numbers_at (conjugate_tensor model e) e.term.kind) key
+      sym (sum-add ring_ℚ.semiring cells (conjugate_cell model e (0 ∷ key)) (conjugate_cell model e (1 ∷ key)))
+      ∙ ap (sum ring_ℚ.semiring cells) (fun_ext (λ cell. one_side (same_block (conjugate_content model (cell_content e.term cell)) (entry_block model e)) (at_key model e.term.kind (conjugated e.term.kind (cell_tensor model e.term cell))) key))
+      ∙ conjugate_cells_at model e.term e.row e.column (coordinates_at (legs_of model e.term.kind) key)
       ∙ ap (λ kind. numbers_at (conjugate_tensor model e) kind key) scalar
 
   real_is : (key : List ℕ) → real_part model e key ≡ plain_part model e key

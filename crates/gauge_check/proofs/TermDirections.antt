@@ -2,6 +2,8 @@
 use Rattle.std.specs.Prelude.{◌≡◌, ◌<◌, ◌≤◌, ◌+◌, ◌==◌, if◌then◌else◌, ℕ, zero, suc, Bool, true, false, List, [], ◌∷◌, ◌++◌, length, get_or, None}
 use Rattle.std.specs.List.{flat_map, AllByRecursion}
 use Rattle.std.proofs.Common.{drop, refl, sym, ap, ap₂, subst, ◌∙◌, arith}
+use mathlib.Core.Path.{fun_ext}
+use Rattle.exact_algebra.specs.Sums.{sum, sum-zero}
 use Rattle.frac128.specs.Rational.{ℚ, zero_ℚ, ◌+ℚ◌}
 use Rattle.frac128.specs.RationalLaws.{ring_ℚ}
 use Rattle.beta_poly.specs.Polynomial.{constant}
@@ -12,8 +14,10 @@ use Rattle.model_core.specs.declared.model.Model.{Model}
 use Rattle.model_core.specs.declared.term.Term.{Term}
 use Rattle.model_core.specs.declared.term.TermKind.{TermKind}
 use Rattle.model_core.specs.declared.term.TermKind.TheVariants.{Fermion, Scalar}
+use Rattle.model_core.specs.BlockSide.{side_of}
+use Rattle.model_core.specs.Content.{conjugate_content}
 use Rattle.model_core.specs.TermTensor.{Numbers, legs_of, coordinates_at, value_or, at_places}
-use Rattle.model_core.specs.Directions.{CouplingEntry, Direction, symbol_of, entry_tensor, conjugate_tensor, on_side, plain_part, conjugate_part, moves_both, real_part, direction_of, entry_directions}
+use Rattle.model_core.specs.Directions.{CouplingEntry, Direction, symbol_of, text_cells, cell_content, cell_tensor, conjugated, entry_block, on_side, plain_part, conjugate_part, moves_both, real_part, direction_of, entry_directions}
 use Rattle.term_expand.specs.declared.directions.Direction.{Direction as Found}
 use Rattle.term_expand.specs.Expansion.{IsDirection, AreDirections}
 use Rattle.term_expand.specs.Texts.{leg_count}
@@ -37,14 +41,19 @@ on_side_nothing true p e = e
 on_side_nothing false p e = refl
 
 module _ (model : Model) (e : CouplingEntry) where
+  abbrev cells : List (ℕ × ℕ)
+  cells = text_cells e.term e.row e.column
+
   part_outside : (at : ℕ) (f : Numbers) (side : ℕ) (key : List ℕ) → coordinates_at (legs_of model e.term.kind) key ≡ None → on_side at (at_places zero_ℚ (legs_of model e.term.kind) f) (side ∷ key) ≡ zero_ℚ
   part_outside at f side key none = on_side_nothing (side == at) (at_places zero_ℚ (legs_of model e.term.kind) f key) (ap (value_or zero_ℚ f) none)
 
   plain_outside : (side : ℕ) (key : List ℕ) → coordinates_at (legs_of model e.term.kind) key ≡ None → plain_part model e (side ∷ key) ≡ zero_ℚ
-  plain_outside side key none = part_outside _ (entry_tensor model e) side key none
+  plain_outside side key none =
+      ap (sum ring_ℚ.semiring cells) (fun_ext (λ cell. part_outside (side_of (entry_block model e) (cell_content e.term cell)) (cell_tensor model e.term cell) side key none)) ∙ sum-zero ring_ℚ.semiring cells
 
   conjugate_outside : (side : ℕ) (key : List ℕ) → coordinates_at (legs_of model e.term.kind) key ≡ None → conjugate_part model e (side ∷ key) ≡ zero_ℚ
-  conjugate_outside side key none = part_outside _ (conjugate_tensor model e) side key none
+  conjugate_outside side key none =
+      ap (sum ring_ℚ.semiring cells) (fun_ext (λ cell. part_outside (side_of (entry_block model e) (conjugate_content model (cell_content e.term cell))) (conjugated e.term.kind (cell_tensor model e.term cell)) side key none)) ∙ sum-zero ring_ℚ.semiring cells
 
   real_outside : (b : Bool) (side : ℕ) (key : List ℕ) → coordinates_at (legs_of model e.term.kind) key ≡ None
       → (if b then plain_part model e (side ∷ key) +ℚ conjugate_part model e (side ∷ key) else plain_part model e (side ∷ key)) ≡ zero_ℚ

@@ -3,6 +3,7 @@ use Rattle.std.specs.Prelude.{ℕ, suc, ◌+◌, ◌==◌, Bool, false, ◌||◌
 use Rattle.std.specs.List.{flat_map}
 use Rattle.exact_algebra.specs.Sums.{sum}
 use Rattle.frac128.specs.Rational.{ℚ, zero_ℚ, ◌+ℚ◌}
+use Rattle.frac128.specs.RationalLaws.{ring_ℚ}
 use Rattle.beta_poly.specs.declared.symbol.Symbol.{Symbol}
 use Rattle.beta_poly.specs.Symbol.{conj_symbol}
 use Rattle.beta_poly.specs.Monomial.{power}
@@ -13,8 +14,9 @@ use Rattle.model_core.specs.declared.term.TermKind.TheVariants.{Fermion, Scalar}
 use Rattle.model_core.specs.declared.term.Term.{Term}
 use Rattle.model_core.specs.declared.content.FieldToken.{FieldToken}
 use Rattle.model_core.specs.Scalar.{Coordinate, partner}
-use Rattle.model_core.specs.Content.{is_fermionic, first_uses, content_at, conjugate_content, block_of, same_block, columns_at, rows_of, symbol_count}
-use Rattle.model_core.specs.TermTensor.{Numbers, legs_of, symbol_tensor, at_places}
+use Rattle.model_core.specs.Content.{is_fermionic, first_uses, content_at, conjugate_content, block_of, columns_at, rows_of, symbol_count}
+use Rattle.model_core.specs.TermTensor.{Numbers, legs_of, has_two_texts, text_tensor, symbol_tensor, at_places}
+use Rattle.model_core.specs.BlockSide.{side_of}
 
 -- ---- symbols
 
@@ -52,7 +54,7 @@ symbol_of entry = record { id = entry.id; real = entry.term.real; conj = false }
 
 -- ---- tensors of numbers
 
--- the tensor of an entry's text
+-- the tensor of an entry: of its text, or of both where it has two
 abbrev pub entry_tensor : Model → CouplingEntry → Numbers
 entry_tensor model entry = symbol_tensor model entry.term entry.row entry.column
 
@@ -65,6 +67,20 @@ conjugated Scalar f cs = f (map partner cs)
 abbrev pub conjugate_tensor : Model → CouplingEntry → Numbers
 conjugate_tensor model entry = conjugated entry.term.kind (entry_tensor model entry)
 
+-- ---- texts
+
+-- the cells whose texts the entry [i,j] has: its own, and [j,i] too where the shape is symmetric and i isn't j
+abbrev pub text_cells : Term → ℕ → ℕ → List (ℕ × ℕ)
+text_cells term row column =
+    if has_two_texts term row column then (row, column) ∷ (column, row) ∷ [] else (row, column) ∷ []
+
+-- the content and the tensor of the text at a cell
+abbrev pub cell_content : Term → ℕ × ℕ → List FieldToken
+cell_content term cell = content_at (first_uses term.monomials) cell.0 cell.1
+
+abbrev pub cell_tensor : Model → Term → ℕ × ℕ → Numbers
+cell_tensor model term cell = text_tensor model term cell.0 cell.1
+
 -- ---- directions
 
 -- Where a symbol moves its block: at keys that begin with 0 for the block's content, or 1 for the conjugate one.
@@ -75,29 +91,33 @@ pub record Direction : Type 0 where
   pub block : List FieldToken
   pub numbers : List ℕ → ℚ
 
-abbrev pub entry_content : CouplingEntry → List FieldToken
-entry_content entry = content_at (first_uses entry.term.monomials) entry.row entry.column
-
--- 0 where a content is the block's own, and 1 where it is the conjugate one
-abbrev pub side_of : List FieldToken → List FieldToken → ℕ
-side_of block content = if same_block content block then 0 else 1
-
 -- a tensor of numbers at keys with this side, and 0 at others
 abbrev pub on_side : ℕ → (List ℕ → ℚ) → List ℕ → ℚ
 on_side side f [] = zero_ℚ
 on_side side f (first ∷ key) = if first == side then f key else zero_ℚ
 
--- the tensor of an entry's text on its content, and the conjugate tensor on the conjugate content
-abbrev pub entry_block : Model → CouplingEntry → List FieldToken
-entry_block model entry = block_of model (entry_content entry)
+abbrev pub at_key : Model → TermKind → Numbers → List ℕ → ℚ
+at_key model kind f = at_places zero_ℚ (legs_of model kind) f
 
+-- the block of an entry, in which the contents of all its texts are
+abbrev pub entry_block : Model → CouplingEntry → List FieldToken
+entry_block model entry = block_of model (cell_content entry.term (entry.row, entry.column))
+
+-- the tensor of the text at a cell on the side of its content, and the conjugate tensor on that of the conjugate content
+abbrev pub plain_cell : Model → CouplingEntry → List ℕ → ℕ × ℕ → ℚ
+plain_cell model entry key cell =
+    on_side (side_of (entry_block model entry) (cell_content entry.term cell)) (at_key model entry.term.kind (cell_tensor model entry.term cell)) key
+
+abbrev pub conjugate_cell : Model → CouplingEntry → List ℕ → ℕ × ℕ → ℚ
+conjugate_cell model entry key cell =
+    on_side (side_of (entry_block model entry) (conjugate_content model (cell_content entry.term cell))) (at_key model entry.term.kind (conjugated entry.term.kind (cell_tensor model entry.term cell))) key
+
+-- the sums of these over the texts of an entry
 abbrev pub plain_part : Model → CouplingEntry → List ℕ → ℚ
-plain_part model entry =
-    on_side (side_of (entry_block model entry) (entry_content entry)) (at_places zero_ℚ (legs_of model entry.term.kind) (entry_tensor model entry))
+plain_part model entry key = sum ring_ℚ.semiring (text_cells entry.term entry.row entry.column) (plain_cell model entry key)
 
 abbrev pub conjugate_part : Model → CouplingEntry → List ℕ → ℚ
-conjugate_part model entry =
-    on_side (side_of (entry_block model entry) (conjugate_content model (entry_content entry))) (at_places zero_ℚ (legs_of model entry.term.kind) (conjugate_tensor model entry))
+conjugate_part model entry key = sum ring_ℚ.semiring (text_cells entry.term entry.row entry.column) (conjugate_cell model entry key)
 
 -- a real coupling of fermions, or of scalars with the conjugate added, moves both contents
 abbrev pub moves_both : Term → Bool

@@ -23,8 +23,9 @@ pub mod TermMeaning
 pub mod TermWalk
 pub mod MonomialValue
 pub mod TermTensor
-pub mod Directions
 pub mod ComponentLists
+pub mod BlockSide
+pub mod Directions
 pub mod Generators
 pub mod Invariance
 pub mod Anomaly

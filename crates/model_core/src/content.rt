@@ -6,6 +6,7 @@ ghost use Rattle.model_core.specs.Groups.{is_between};
 ghost use Rattle.model_core.specs.Component.{same_side};
 ghost use Rattle.model_core.specs.Factors.{field_use, uses};
 ghost use Rattle.model_core.specs.Content.{is_fermionic, is_fermion, kind_of, may_couple, same_kind, same_generation, same_use, equally_often, same_uses, first_uses, has_content, kind_cmp, token_cmp, is_before, inserted, generation_at, token_at, content_at, is_real, is_self_conjugate, conjugate_token, conjugate_content, content_cmp, first_of_two, block_of, same_block, sorted};
+ghost use Rattle.model_core.specs.BlockSide.{side_of};
 
 use crate::model::Model;
 use crate::term::{Factor, Generation, Monomial, TermKind};
@@ -402,6 +403,16 @@ pub fn same_block(a: &[FieldToken], b: &[FieldToken]) -> bool
     ensures { result ≡ same_block a.now b.now }
 {
     content_cmp(a, b).is_eq()
+}
+
+/// The side of a block that a content is: 0 for the block's own, and 1 for the conjugate one.
+pub fn side_of(block: &[FieldToken], content: &[FieldToken]) -> u32
+    ensures { result ≡ side_of block.now content.now }
+{
+    if same_block(content, block) {
+        return 0;
+    }
+    1
 }
 
 /// The first of two contents.

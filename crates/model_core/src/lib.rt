@@ -64,6 +64,7 @@ pub use content::generation_at;
 pub use content::has_content;
 pub use content::kind_of;
 pub use content::same_block;
+pub use content::side_of;
 pub use content::uses;
 pub use factors::are_factors;
 pub use factors::are_joined;

@@ -1,12 +1,12 @@
 -- What the entries of couplings add to the sums of the two tensors.
 use Rattle.std.specs.Prelude.{◌≡◌, ℕ, zero, suc, Bool, true, false, if◌then◌else◌, List, [], ◌∷◌, ◌++◌, map, length, Option, Some, None, not, IsTrue, Result, Ok, Err, OnOk}
-use Rattle.std.specs.List.{All, flat_map}
+use Rattle.std.specs.List.{All, AllZip, flat_map}
 use Rattle.std.proofs.Common.{Ordering, Less, Equal, Greater, subst, refl, sym, ap, ap₂, ◌∙◌, arith}
 use Rattle.std.proofs.lemmas.Cmp.{tied_itself}
 use Rattle.std.proofs.lemmas.List.{append-nil, append_assoc}
 use Rattle.std.proofs.lemmas.Grind.{flat_map-append}
 use Rattle.std.proofs.lemmas.List.Elements.{All-append}
-use Rattle.exact_algebra.specs.Ring.{add_mul}
+use Rattle.exact_algebra.specs.Ring.{add_mul, add_add_comm}
 use Rattle.exact_algebra.specs.Formal.{coefficient-eval, coefficient-cons, coefficient-nil, unit_at}
 use Rattle.exact_algebra.specs.Canon.{value, eval-single, of-zero, nought-of, same_values, value-of, value-plus, coefficient-plus}
 use Rattle.exact_algebra.specs.Maps.{const-zero, value-const}
@@ -25,14 +25,20 @@ use Rattle.model_core.specs.declared.model.Model.{Model}
 use Rattle.model_core.specs.declared.term.TermKind.{TermKind}
 use Rattle.model_core.specs.declared.term.TermKind.TheVariants.{Fermion, Scalar}
 use Rattle.model_core.specs.Scalar.{Coordinate}
-use Rattle.model_core.specs.TermTensor.{Numbers, legs_of, coordinates_at, value_or, at_places}
+use Rattle.model_core.specs.TermTensor.{Numbers, legs_of, has_two_texts, text_tensor, symbol_tensor, coordinates_at, value_or, at_places}
 use Rattle.model_core.specs.Content.{is_fermionic}
-use Rattle.model_core.specs.Directions.{CouplingEntry, Direction, multiple, symbol_of, entry_tensor, conjugate_tensor, entry_directions, yukawa_part, scalar_part}
+use Rattle.model_core.specs.declared.content.FieldToken.{FieldToken}
+use Rattle.model_core.specs.declared.term.Term.{Term}
+use Rattle.model_core.specs.Directions.{CouplingEntry, Direction, multiple, symbol_of, text_cells, cell_tensor, conjugated, entry_block, entry_directions, yukawa_part, scalar_part}
 use Rattle.term_expand.specs.declared.expansion.Sums.{Sums}
+use Rattle.term_expand.specs.declared.moves.Moves.{Moves}
+use Rattle.term_expand.specs.declared.moves.Text.{Text}
 use Rattle.term_expand.specs.Texts.{leg_count}
 use Rattle.term_expand.specs.Multiples.{HasNumbers, multiple_entry, multiples}
-use Rattle.term_expand.specs.Expansion.{AreDirections, AddsValues, Adds, yukawa_sum, scalar_sum, yukawa_values, conjugate_values, scalar_values}
-use Rattle.term_expand.proofs.Sides.{gathered-append}
+use Rattle.term_expand.specs.Moves.{IsText, AreTexts, IsMoves, HasRanks, HaveRanks, plain_multiples, text_multiples, scalar_multiples, yukawa_values, scalar_values}
+use Rattle.term_expand.specs.Expansion.{AreDirections, AddsValues, Adds, yukawa_sum, scalar_sum}
+use Rattle.term_expand.proofs.Sides.{gathered-append, each_zipped}
+use Rattle.term_expand.proofs.TextSums.{cells_sum, conjugated_texts}
 
 -- ---- multiples of numbers by a symbol
 
@@ -116,22 +122,102 @@ pub gathered_none : (key : List ℕ) → gathered_at [] key ≡ zero_poly
 unfolding gathered_at
 gathered_none key = sum-nil poly_ring.semiring (λ e. where_equal poly_ring.semiring (places_cmp key e.0) e.1)
 
-yukawa_value : (model : Model) (kind : TermKind) (f : Numbers) (symbol : Symbol) (t : Tensor) (key : List ℕ) → HasNumbers model kind f t → length key ≡ 3
-    → gathered_at (map entry (if is_fermionic kind then multiples symbol t else [])) key ≡ at_places zero_poly (legs_of model Fermion) (λ cs. if is_fermionic kind then multiple symbol (f cs) else zero_poly) key
-yukawa_value model Fermion f symbol t key has l = multiples_value model Fermion f symbol t key has l
-yukawa_value model Scalar f symbol t key has l = gathered_none key ∙ at_zero (coordinates_at (legs_of model Fermion) key)
+-- values that each text gives add up to the sum over the cells of what they are
+texts_at : (legs : List (List Coordinate)) (values : Text → List Value) (part : ℕ × ℕ → List Coordinate → Polynomial) (key : List ℕ) (cells : List (ℕ × ℕ)) (texts : List Text)
+    → AllZip (λ cell text. gathered_at (map entry (values text)) key ≡ at_places zero_poly legs (part cell) key) cells texts
+    → gathered_at (map entry (flat_map values texts)) key ≡ at_places zero_poly legs (λ cs. sum poly_ring.semiring cells (λ cell. part cell cs)) key
+texts_at legs values part key [] [] are =
+    gathered_none key ∙ at_zero (coordinates_at legs key)
+    ∙ at_same (λ cs. zero_poly) (λ cs. sum poly_ring.semiring [] (λ cell. part cell cs)) (coordinates_at legs key) (λ cs. sym (sum-nil poly_ring.semiring (λ cell. part cell cs)))
+texts_at legs values part key [] (text ∷ texts) are = absurd are
+texts_at legs values part key (cell ∷ cells) [] are = absurd are
+texts_at legs values part key (cell ∷ cells) (text ∷ texts) are =
+    let others : List Coordinate → Polynomial = λ cs. sum poly_ring.semiring cells (λ cell. part cell cs) in
+    gathered-append (values text) (flat_map values texts) key
+    ∙ ap₂ add_poly are.0 (texts_at legs values part key cells texts are.1)
+    ∙ at_add (part cell) others (coordinates_at legs key)
+    ∙ at_same (λ cs. add_poly (part cell cs) (others cs)) (λ cs. sum poly_ring.semiring (cell ∷ cells) (λ cell. part cell cs)) (coordinates_at legs key) (λ cs. sym (sum-cons poly_ring.semiring cell cells (λ cell. part cell cs)))
 
-scalar_value : (model : Model) (kind : TermKind) (hc : Bool) (f g : Numbers) (symbol : Symbol) (s t : Tensor) (key : List ℕ) → HasNumbers model kind f s → HasNumbers model kind g t → length key ≡ 4
-    → gathered_at (map entry (if is_fermionic kind then [] else conjugate_values hc symbol s t)) key
-    ≡ at_places zero_poly (legs_of model Scalar) (λ cs. if is_fermionic kind then zero_poly else add_poly (multiple symbol (f cs)) (if hc then multiple (conj_symbol symbol) (g cs) else zero_poly)) key
-scalar_value model Fermion hc f g symbol s t key has other l = gathered_none key ∙ at_zero (coordinates_at (legs_of model Scalar) key)
-scalar_value model Scalar true f g symbol s t key has other l =
-    gathered-append (multiples symbol s) (multiples (conj_symbol symbol) t) key
-    ∙ ap₂ add_poly (multiples_value model Scalar f symbol s key has l) (multiples_value model Scalar g (conj_symbol symbol) t key other l)
-    ∙ at_add (λ cs. multiple symbol (f cs)) (λ cs. multiple (conj_symbol symbol) (g cs)) (coordinates_at (legs_of model Scalar) key)
-scalar_value model Scalar false f g symbol s t key has other l =
-    multiples_value model Scalar f symbol s key has l
-    ∙ at_same (λ cs. multiple symbol (f cs)) (λ cs. add_poly (multiple symbol (f cs)) zero_poly) (coordinates_at (legs_of model Scalar) key) (λ cs. sym (poly_ring.semiring.add_zero (multiple symbol (f cs))))
+-- the multiple of a symbol's tensor is the sum of those of its texts' tensors
+multiple_texts : (symbol : Symbol) (two : Bool) (x y : ℚ) → (if two then add_poly (multiple symbol x) (multiple symbol y) else multiple symbol x) ≡ multiple symbol (if two then x +ℚ y else x)
+multiple_texts symbol true x y = sym (term_add (power symbol 1) x y)
+multiple_texts symbol false x y = refl
+
+both_texts : (symbol other : Symbol) (two : Bool) (x y z w : ℚ)
+    → (if two then add_poly (add_poly (multiple symbol x) (multiple other z)) (add_poly (multiple symbol y) (multiple other w)) else add_poly (multiple symbol x) (multiple other z))
+    ≡ add_poly (multiple symbol (if two then x +ℚ y else x)) (multiple other (if two then z +ℚ w else z))
+both_texts symbol other true x y z w =
+    add_add_comm poly_ring.semiring (multiple symbol x) (multiple other z) (multiple symbol y) (multiple other w)
+    ∙ ap₂ add_poly (sym (term_add (power symbol 1) x y)) (sym (term_add (power other 1) z w))
+both_texts symbol other false x y z w = refl
+
+module _ (model : Model) (term : Term) (block : List FieldToken) (row column : ℕ) (symbol : Symbol) (texts : List Text) (are : AreTexts model term block (text_cells term row column) texts) where
+  abbrev cells : List (ℕ × ℕ)
+  cells = text_cells term row column
+
+  abbrev two : Bool
+  two = has_two_texts term row column
+
+  abbrev total : Numbers
+  total = symbol_tensor model term row column
+
+  abbrev other_total : Numbers
+  other_total = conjugated term.kind total
+
+  plain_value : (key : List ℕ) → length key ≡ leg_count term.kind → gathered_at (map entry (plain_multiples symbol texts)) key ≡ at_places zero_poly (legs_of model term.kind) (λ cs. multiple symbol (total cs)) key
+  plain_value key l =
+      let legs = legs_of model term.kind in
+      let part : ℕ × ℕ → List Coordinate → Polynomial = λ cell cs. multiple symbol (cell_tensor model term cell cs) in
+      texts_at legs (λ text. multiples symbol text.plain) part key cells texts
+      (each_zipped (IsText model term block) (λ cell text. gathered_at (map entry (multiples symbol text.plain)) key ≡ at_places zero_poly legs (part cell) key)
+      (λ cell text is. multiples_value model term.kind (cell_tensor model term cell) symbol text.plain key is.plain l) cells texts are)
+      ∙ at_same (λ cs. sum poly_ring.semiring cells (λ cell. part cell cs)) (λ cs. multiple symbol (total cs)) (coordinates_at legs key)
+      (λ cs. cells_sum poly_ring.semiring (λ cell. part cell cs) term row column ∙ multiple_texts symbol two (text_tensor model term row column cs) (text_tensor model term column row cs))
+
+  both_value : (key : List ℕ) → length key ≡ leg_count term.kind → gathered_at (map entry (scalar_multiples true symbol texts)) key
+      ≡ at_places zero_poly (legs_of model term.kind) (λ cs. add_poly (multiple symbol (total cs)) (multiple (conj_symbol symbol) (other_total cs))) key
+  both_value key l =
+      let legs = legs_of model term.kind in
+      let other = conj_symbol symbol in
+      let f : ℕ × ℕ → Numbers = cell_tensor model term in
+      let g : ℕ × ℕ → Numbers = λ cell. conjugated term.kind (cell_tensor model term cell) in
+      let part : ℕ × ℕ → List Coordinate → Polynomial = λ cell cs. add_poly (multiple symbol (f cell cs)) (multiple other (g cell cs)) in
+      texts_at legs (λ text. text_multiples true symbol text.plain text.conjugate) part key cells texts
+      (each_zipped (IsText model term block) (λ cell text. gathered_at (map entry (text_multiples true symbol text.plain text.conjugate)) key ≡ at_places zero_poly legs (part cell) key)
+      (λ cell text is.
+      gathered-append (multiples symbol text.plain) (multiples other text.conjugate) key
+      ∙ ap₂ add_poly (multiples_value model term.kind (f cell) symbol text.plain key is.plain l) (multiples_value model term.kind (g cell) other text.conjugate key is.conjugate l)
+      ∙ at_add (λ cs. multiple symbol (f cell cs)) (λ cs. multiple other (g cell cs)) (coordinates_at legs key)) cells texts are)
+      ∙ at_same (λ cs. sum poly_ring.semiring cells (λ cell. part cell cs)) (λ cs. add_poly (multiple symbol (total cs)) (multiple other (other_total cs))) (coordinates_at legs key)
+      (λ cs. cells_sum poly_ring.semiring (λ cell. part cell cs) term row column
+      ∙ both_texts symbol other two (f (row, column) cs) (f (column, row) cs) (g (row, column) cs) (g (column, row) cs)
+      ∙ ap (λ x. add_poly (multiple symbol (total cs)) (multiple other x)) (sym (conjugated_texts term.kind two (f (row, column)) (f (column, row)) cs)))
+
+  scalar_hc : (hc : Bool) (key : List ℕ) → length key ≡ leg_count term.kind → gathered_at (map entry (scalar_multiples hc symbol texts)) key
+      ≡ at_places zero_poly (legs_of model term.kind) (λ cs. add_poly (multiple symbol (total cs)) (if hc then multiple (conj_symbol symbol) (other_total cs) else zero_poly)) key
+  scalar_hc true key l = both_value key l
+  scalar_hc false key l =
+      plain_value key l
+      ∙ at_same (λ cs. multiple symbol (total cs)) (λ cs. add_poly (multiple symbol (total cs)) zero_poly) (coordinates_at (legs_of model term.kind) key) (λ cs. sym (poly_ring.semiring.add_zero (multiple symbol (total cs))))
+
+  -- by the kind of the term
+  yukawa_value : (key : List ℕ) → length key ≡ 3 → gathered_at (map entry (yukawa_values term symbol texts)) key ≡ at_places zero_poly (legs_of model Fermion) (λ cs. if is_fermionic term.kind then multiple symbol (total cs) else zero_poly) key
+  yukawa_value key l = by_kind term.kind refl
+    where
+      by_kind : (kind : TermKind) → kind ≡ term.kind → gathered_at (map entry (if is_fermionic kind then plain_multiples symbol texts else [])) key ≡ at_places zero_poly (legs_of model Fermion) (λ cs. if is_fermionic kind then multiple symbol (total cs) else zero_poly) key
+      by_kind Fermion is = plain_value key (l ∙ ap leg_count is) ∙ ap (λ kind. at_places zero_poly (legs_of model kind) (λ cs. multiple symbol (total cs)) key) (sym is)
+      by_kind Scalar is = gathered_none key ∙ at_zero (coordinates_at (legs_of model Fermion) key)
+
+  scalar_value : (key : List ℕ) → length key ≡ 4 → gathered_at (map entry (scalar_values term symbol texts)) key
+      ≡ at_places zero_poly (legs_of model Scalar) (λ cs. if is_fermionic term.kind then zero_poly else add_poly (multiple symbol (total cs)) (if term.hc then multiple (conj_symbol symbol) (other_total cs) else zero_poly)) key
+  scalar_value key l = by_kind term.kind refl
+    where
+      both : List Coordinate → Polynomial
+      both cs = add_poly (multiple symbol (total cs)) (if term.hc then multiple (conj_symbol symbol) (other_total cs) else zero_poly)
+
+      by_kind : (kind : TermKind) → kind ≡ term.kind → gathered_at (map entry (if is_fermionic kind then [] else scalar_multiples term.hc symbol texts)) key ≡ at_places zero_poly (legs_of model Scalar) (λ cs. if is_fermionic kind then zero_poly else both cs) key
+      by_kind Fermion is = gathered_none key ∙ at_zero (coordinates_at (legs_of model Scalar) key)
+      by_kind Scalar is = scalar_hc term.hc key (l ∙ ap leg_count is) ∙ ap (λ kind. at_places zero_poly (legs_of model kind) both key) (sym is)
 
 multiple_keys : (rank : ℕ) (symbol : Symbol) (es : Entries) → HasRank rank es → All (λ v. length v.key ≡ rank) (map (multiple_entry symbol) es)
 multiple_keys rank symbol [] keys i d within = absurd (omega (arith, within))
@@ -144,14 +230,35 @@ no_keys rank i d within = absurd (omega (arith, within))
 multiples_keys : (kind : TermKind) (symbol : Symbol) (t : Tensor) → rank_of t ≡ leg_count kind → All (λ v. length v.key ≡ leg_count kind) (multiples symbol t)
 multiples_keys kind symbol t is = subst (λ n. All (λ v. length v.key ≡ n) (multiples symbol t)) is (multiple_keys (rank_of t) symbol (entries_of t) t.1.keys)
 
-yukawa_keys : (kind : TermKind) (symbol : Symbol) (t : Tensor) → rank_of t ≡ leg_count kind → All (λ v. length v.key ≡ 3) (if is_fermionic kind then multiples symbol t else [])
-yukawa_keys Fermion symbol t is = multiples_keys Fermion symbol t is
-yukawa_keys Scalar symbol t is = no_keys 3
+plain_keys : (kind : TermKind) (symbol : Symbol) (texts : List Text) → HaveRanks kind texts → All (λ v. length v.key ≡ leg_count kind) (plain_multiples symbol texts)
+plain_keys kind symbol [] ranks = no_keys (leg_count kind)
+plain_keys kind symbol (text ∷ texts) ranks =
+    All-append (λ v. length v.key ≡ leg_count kind) (multiples symbol text.plain) (plain_multiples symbol texts) (multiples_keys kind symbol text.plain ranks.0.plain) (plain_keys kind symbol texts ranks.1)
 
-scalar_keys : (kind : TermKind) (hc : Bool) (symbol : Symbol) (s t : Tensor) → rank_of s ≡ leg_count kind → rank_of t ≡ leg_count kind → All (λ v. length v.key ≡ 4) (if is_fermionic kind then [] else conjugate_values hc symbol s t)
-scalar_keys Fermion hc symbol s t is other = no_keys 4
-scalar_keys Scalar true symbol s t is other = All-append (λ v. length v.key ≡ 4) (multiples symbol s) (multiples (conj_symbol symbol) t) (multiples_keys Scalar symbol s is) (multiples_keys Scalar (conj_symbol symbol) t other)
-scalar_keys Scalar false symbol s t is other = multiples_keys Scalar symbol s is
+text_keys : (kind : TermKind) (hc : Bool) (symbol : Symbol) (text : Text) → HasRanks kind text → All (λ v. length v.key ≡ leg_count kind) (text_multiples hc symbol text.plain text.conjugate)
+text_keys kind true symbol text ranks =
+    All-append (λ v. length v.key ≡ leg_count kind) (multiples symbol text.plain) (multiples (conj_symbol symbol) text.conjugate) (multiples_keys kind symbol text.plain ranks.plain) (multiples_keys kind (conj_symbol symbol) text.conjugate ranks.conjugate)
+text_keys kind false symbol text ranks = multiples_keys kind symbol text.plain ranks.plain
+
+all_keys : (kind : TermKind) (hc : Bool) (symbol : Symbol) (texts : List Text) → HaveRanks kind texts → All (λ v. length v.key ≡ leg_count kind) (scalar_multiples hc symbol texts)
+all_keys kind hc symbol [] ranks = no_keys (leg_count kind)
+all_keys kind hc symbol (text ∷ texts) ranks =
+    All-append (λ v. length v.key ≡ leg_count kind) (text_multiples hc symbol text.plain text.conjugate) (scalar_multiples hc symbol texts) (text_keys kind hc symbol text ranks.0) (all_keys kind hc symbol texts ranks.1)
+
+yukawa_keys : (kind : TermKind) (symbol : Symbol) (texts : List Text) → HaveRanks kind texts → All (λ v. length v.key ≡ 3) (if is_fermionic kind then plain_multiples symbol texts else [])
+yukawa_keys Fermion symbol texts ranks = plain_keys Fermion symbol texts ranks
+yukawa_keys Scalar symbol texts ranks = no_keys 3
+
+scalar_keys : (kind : TermKind) (hc : Bool) (symbol : Symbol) (texts : List Text) → HaveRanks kind texts → All (λ v. length v.key ≡ 4) (if is_fermionic kind then [] else scalar_multiples hc symbol texts)
+scalar_keys Fermion hc symbol texts ranks = no_keys 4
+scalar_keys Scalar hc symbol texts ranks = all_keys Scalar hc symbol texts ranks
+
+-- the ranks of texts
+pub ranks_of : (model : Model) (term : Term) (block : List FieldToken) (cells : List (ℕ × ℕ)) (texts : List Text) → AreTexts model term block cells texts → HaveRanks term.kind texts
+ranks_of model term block [] [] are = tt
+ranks_of model term block [] (text ∷ texts) are = absurd are
+ranks_of model term block (cell ∷ others) [] are = absurd are
+ranks_of model term block (cell ∷ others) (text ∷ texts) are = (record { plain = are.0.plain.rank_is; conjugate = are.0.conjugate.rank_is }, ranks_of model term block others texts are.1)
 
 -- values put behind others
 adds_behind : (legs : ℕ) (more : List ℕ → Polynomial) (old new values : List Value) → new ≡ old ++ values → All (λ v. length v.key ≡ legs) values → ((key : List ℕ) → length key ≡ legs → gathered_at (map entry values) key ≡ more key) → AddsValues legs more old new
@@ -160,19 +267,22 @@ adds_behind legs more old new values is keys sums = record {
   sums = λ key l. ap (λ vs. gathered_at (map entry vs) key) is ∙ gathered-append old values key ∙ ap (add_poly (gathered_at (map entry old) key)) (sums key l);
 }
 
-module _ (model : Model) (e : CouplingEntry) (plain other : Tensor) (has : HasNumbers model e.term.kind (entry_tensor model e) plain) (conjugate : HasNumbers model e.term.kind (conjugate_tensor model e) other) where
+module _ (model : Model) (e : CouplingEntry) (moves : Moves) (is : IsMoves model e.term e.row e.column moves) where
+  abbrev ranks : HaveRanks e.term.kind moves.texts
+  ranks = ranks_of model e.term (entry_block model e) (text_cells e.term e.row e.column) moves.texts is.texts
+
   -- what one entry adds to the Yukawa tensor's values
-  pub entry_yukawa : (old new : List Value) → new ≡ old ++ yukawa_values e.term (symbol_of e) plain → AddsValues 3 (yukawa_sum model (e ∷ [])) old new
-  entry_yukawa old new is =
-      adds_behind 3 (yukawa_sum model (e ∷ [])) old new (yukawa_values e.term (symbol_of e) plain) is (yukawa_keys e.term.kind (symbol_of e) plain has.rank_is)
-      (λ key l. yukawa_value model e.term.kind (entry_tensor model e) (symbol_of e) plain key has l
+  pub entry_yukawa : (old new : List Value) → new ≡ old ++ yukawa_values e.term (symbol_of e) moves.texts → AddsValues 3 (yukawa_sum model (e ∷ [])) old new
+  entry_yukawa old new filled =
+      adds_behind 3 (yukawa_sum model (e ∷ [])) old new (yukawa_values e.term (symbol_of e) moves.texts) filled (yukawa_keys e.term.kind (symbol_of e) moves.texts ranks)
+      (λ key l. yukawa_value model e.term (entry_block model e) e.row e.column (symbol_of e) moves.texts is.texts key l
       ∙ at_same (λ cs. yukawa_part model cs e) (λ cs. sum poly_ring.semiring (e ∷ []) (yukawa_part model cs)) (coordinates_at (legs_of model Fermion) key) (λ cs. sym (sum-one poly_ring.semiring e (yukawa_part model cs))))
 
   -- and to the scalar tensor's
-  pub entry_scalar : (old new : List Value) → new ≡ old ++ scalar_values e.term (symbol_of e) plain other → AddsValues 4 (scalar_sum model (e ∷ [])) old new
-  entry_scalar old new is =
-      adds_behind 4 (scalar_sum model (e ∷ [])) old new (scalar_values e.term (symbol_of e) plain other) is (scalar_keys e.term.kind e.term.hc (symbol_of e) plain other has.rank_is conjugate.rank_is)
-      (λ key l. scalar_value model e.term.kind e.term.hc (entry_tensor model e) (conjugate_tensor model e) (symbol_of e) plain other key has conjugate l
+  pub entry_scalar : (old new : List Value) → new ≡ old ++ scalar_values e.term (symbol_of e) moves.texts → AddsValues 4 (scalar_sum model (e ∷ [])) old new
+  entry_scalar old new filled =
+      adds_behind 4 (scalar_sum model (e ∷ [])) old new (scalar_values e.term (symbol_of e) moves.texts) filled (scalar_keys e.term.kind e.term.hc (symbol_of e) moves.texts ranks)
+      (λ key l. scalar_value model e.term (entry_block model e) e.row e.column (symbol_of e) moves.texts is.texts key l
       ∙ at_same (λ cs. scalar_part model cs e) (λ cs. sum poly_ring.semiring (e ∷ []) (scalar_part model cs)) (coordinates_at (legs_of model Scalar) key) (λ cs. sym (sum-one poly_ring.semiring e (scalar_part model cs))))
 
 -- the conjugate of a symbol that isn't one, where it is real
@@ -226,11 +336,11 @@ module _ (model : Model) where
       }
 
 -- what one entry adds
-pub entry_adds : (model : Model) (e : CouplingEntry) (plain other : Tensor) (old new : Sums) → HasNumbers model e.term.kind (entry_tensor model e) plain → HasNumbers model e.term.kind (conjugate_tensor model e) other
-    → new.yukawa ≡ old.yukawa ++ yukawa_values e.term (symbol_of e) plain → new.scalar ≡ old.scalar ++ scalar_values e.term (symbol_of e) plain other
+pub entry_adds : (model : Model) (e : CouplingEntry) (moves : Moves) (old new : Sums) → IsMoves model e.term e.row e.column moves
+    → new.yukawa ≡ old.yukawa ++ yukawa_values e.term (symbol_of e) moves.texts → new.scalar ≡ old.scalar ++ scalar_values e.term (symbol_of e) moves.texts
     → ((before : List Direction) → AreDirections before old.directions → AreDirections (before ++ entry_directions model e) new.directions) → Adds model (e ∷ []) old new
-entry_adds model e plain other old new has conjugate yukawa scalar directions = record {
-  yukawa = entry_yukawa model e plain other has conjugate old.yukawa new.yukawa yukawa;
-  scalar = entry_scalar model e plain other has conjugate old.scalar new.scalar scalar;
+entry_adds model e moves old new is yukawa scalar directions = record {
+  yukawa = entry_yukawa model e moves is old.yukawa new.yukawa yukawa;
+  scalar = entry_scalar model e moves is old.scalar new.scalar scalar;
   directions = λ before so_far. subst (λ ds. AreDirections (before ++ ds) new.directions) (sym (append-nil (entry_directions model e))) (directions before so_far);
 }

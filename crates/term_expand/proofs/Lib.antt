@@ -24,5 +24,6 @@ pub mod Projections
 pub mod ProjectorSteps
 pub mod Sides
 pub mod Signs
-pub mod SymbolTensors
 pub mod TextLaws
+pub mod TextSums
+pub mod TextTensors

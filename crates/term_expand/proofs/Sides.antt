@@ -1,6 +1,6 @@
 -- Values on the sides of a block, and the directions that they make.
 use Rattle.std.specs.Prelude.{◌≡◌, ◌+◌, ◌==◌, ℕ, zero, suc, Bool, true, false, if◌then◌else◌, List, [], ◌∷◌, ◌++◌, map, length}
-use Rattle.std.specs.List.{All}
+use Rattle.std.specs.List.{All, AllZip, flat_map}
 use Rattle.std.specs.Ordering.{nat_cmp}
 use Rattle.std.proofs.Common.{cond, subst, refl, sym, ap, ap₂, ◌∙◌, arith}
 use Rattle.std.proofs.lemmas.Cmp.{nat_cmp_total, tied_itself}
@@ -9,7 +9,7 @@ use Rattle.std.proofs.lemmas.List.Elements.{All-append}
 use mathlib.Core.Path.{fun_ext}
 use Rattle.exact_algebra.specs.Formal.{coefficient}
 use Rattle.exact_algebra.specs.Maps.{const-zero, const-add}
-use Rattle.exact_algebra.specs.Sums.{sum, sum-append, sum-map, where_equal, where_equal-apart, nat_equal}
+use Rattle.exact_algebra.specs.Sums.{sum, sum-nil, sum-cons, sum-append, sum-map, where_equal, where_equal-apart, nat_equal}
 use Rattle.exact_algebra.specs.Kronecker.{where_then, sum-where}
 use Rattle.exact_algebra.specs.TensorContraction.{places_cmp}
 use Rattle.frac128.specs.Rational.{ℚ, zero_ℚ, ◌+ℚ◌}
@@ -26,13 +26,15 @@ use Rattle.model_core.specs.declared.term.TermKind.{TermKind}
 use Rattle.model_core.specs.declared.term.Term.{Term}
 use Rattle.model_core.specs.declared.content.FieldToken.{FieldToken}
 use Rattle.model_core.specs.TermTensor.{Numbers, legs_of, at_places}
-use Rattle.model_core.specs.Directions.{CouplingEntry, Direction, symbol_of, entry_tensor, conjugate_tensor, on_side, plain_part, conjugate_part, moves_both, real_part, direction_of, entry_directions}
+use Rattle.model_core.specs.Directions.{CouplingEntry, Direction, symbol_of, text_cells, cell_tensor, conjugated, on_side, at_key, entry_block, plain_cell, conjugate_cell, plain_part, conjugate_part, moves_both, real_part, direction_of, entry_directions}
 use Rattle.term_expand.specs.declared.directions.Direction.{Direction as Found}
-use Rattle.term_expand.specs.declared.directions.Moves.{Moves}
+use Rattle.term_expand.specs.declared.moves.Moves.{Moves}
+use Rattle.term_expand.specs.declared.moves.Text.{Text}
 use Rattle.term_expand.specs.Texts.{leg_count}
 use Rattle.term_expand.specs.Tokens.{block_name}
 use Rattle.term_expand.specs.Multiples.{HasNumbers, entry_on_side, values_on_side}
-use Rattle.term_expand.specs.Expansion.{HaveRanks, IsMeant, IsMoves, IsDirection, AreDirections, real_values}
+use Rattle.term_expand.specs.Moves.{IsText, IsMoves, HaveRanks, plain_on_side, conjugate_on_side, plain_values, conjugate_values, real_values}
+use Rattle.term_expand.specs.Expansion.{IsMeant, IsDirection, AreDirections}
 
 -- ---- keys
 
@@ -45,14 +47,28 @@ side_keys rank side (e ∷ es) keys (suc i) d within = side_keys rank side es ke
 pub on_side_keys : (kind : TermKind) (side : ℕ) (t : Tensor) → rank_of t ≡ leg_count kind → All (λ v. length v.key ≡ 1 + leg_count kind) (values_on_side side t)
 on_side_keys kind side t is = subst (λ n. All (λ v. length v.key ≡ 1 + n) (values_on_side side t)) is (side_keys (rank_of t) side (entries_of t) t.1.keys)
 
-pub real_keys : (term : Term) (moves : Moves) → HaveRanks term.kind moves → All (λ v. length v.key ≡ 1 + leg_count term.kind) (real_values term moves)
-real_keys term moves ranks = by_kind (moves_both term)
+no_keys : (rank : ℕ) → All {X = Value} (λ v. length v.key ≡ rank) []
+no_keys rank i d within = absurd (omega (arith, within))
+
+pub plain_keys : (kind : TermKind) (texts : List Text) → HaveRanks kind texts → All (λ v. length v.key ≡ 1 + leg_count kind) (plain_values texts)
+plain_keys kind [] ranks = no_keys (1 + leg_count kind)
+plain_keys kind (text ∷ texts) ranks =
+    All-append (λ v. length v.key ≡ 1 + leg_count kind) (plain_on_side text) (plain_values texts)
+    (on_side_keys kind text.plain_side text.plain ranks.0.plain) (plain_keys kind texts ranks.1)
+
+pub conjugate_keys : (kind : TermKind) (texts : List Text) → HaveRanks kind texts → All (λ v. length v.key ≡ 1 + leg_count kind) (conjugate_values texts)
+conjugate_keys kind [] ranks = no_keys (1 + leg_count kind)
+conjugate_keys kind (text ∷ texts) ranks =
+    All-append (λ v. length v.key ≡ 1 + leg_count kind) (conjugate_on_side text) (conjugate_values texts)
+    (on_side_keys kind text.conjugate_side text.conjugate ranks.0.conjugate) (conjugate_keys kind texts ranks.1)
+
+pub real_keys : (term : Term) (texts : List Text) → HaveRanks term.kind texts → All (λ v. length v.key ≡ 1 + leg_count term.kind) (real_values term texts)
+real_keys term texts ranks = by_kind (moves_both term)
   where
-    by_kind : (b : Bool) → All (λ v. length v.key ≡ 1 + leg_count term.kind) (if b then values_on_side moves.plain_side moves.plain ++ values_on_side moves.conjugate_side moves.conjugate else values_on_side moves.plain_side moves.plain)
+    by_kind : (b : Bool) → All (λ v. length v.key ≡ 1 + leg_count term.kind) (if b then plain_values texts ++ conjugate_values texts else plain_values texts)
     by_kind true =
-        All-append (λ v. length v.key ≡ 1 + leg_count term.kind) (values_on_side moves.plain_side moves.plain) (values_on_side moves.conjugate_side moves.conjugate)
-        (on_side_keys term.kind moves.plain_side moves.plain ranks.plain) (on_side_keys term.kind moves.conjugate_side moves.conjugate ranks.conjugate)
-    by_kind false = on_side_keys term.kind moves.plain_side moves.plain ranks.plain
+        All-append (λ v. length v.key ≡ 1 + leg_count term.kind) (plain_values texts) (conjugate_values texts) (plain_keys term.kind texts ranks) (conjugate_keys term.kind texts ranks)
+    by_kind false = plain_keys term.kind texts ranks
 
 -- ---- sums
 
@@ -90,24 +106,62 @@ side_numbers model kind f side t (x ∷ key) has l =
     ∙ ap (where_equal poly_ring.semiring (nat_cmp x side)) (has.value_is key (omega (arith, l)))
     ∙ side_number (x == side) x side (at_places zero_ℚ (legs_of model kind) f key) refl
 
-module _ (model : Model) (e : CouplingEntry) (moves : Moves) (is : IsMoves model e moves) where
-  pub plain_numbers : (key : List ℕ) → length key ≡ 1 + leg_count e.term.kind → gathered_at (map entry (values_on_side moves.plain_side moves.plain)) key ≡ constant (plain_part model e key)
+nothing_gathered : (key : List ℕ) → gathered_at [] key ≡ constant zero_ℚ
+unfolding gathered_at
+nothing_gathered key = sum-nil poly_ring.semiring (λ e. where_equal poly_ring.semiring (places_cmp key e.0) e.1) ∙ sym (const-zero monomials ring_ℚ.semiring zero_test)
+
+-- values that each text gives add up to the sum over the cells of what they are
+module _ (model : Model) (e : CouplingEntry) (values : Text → List Value) (part : List ℕ → ℕ × ℕ → ℚ) (key : List ℕ) where
+  abbrev IsPart : ℕ × ℕ → Text → Type 0
+  IsPart cell text = gathered_at (map entry (values text)) key ≡ constant (part key cell)
+
+  texts_sum : (cells : List (ℕ × ℕ)) (texts : List Text) → AllZip IsPart cells texts → gathered_at (map entry (flat_map values texts)) key ≡ constant (sum ring_ℚ.semiring cells (part key))
+  texts_sum [] [] are = nothing_gathered key ∙ ap constant (sym (sum-nil ring_ℚ.semiring (part key)))
+  texts_sum [] (text ∷ texts) are = absurd are
+  texts_sum (cell ∷ cells) [] are = absurd are
+  texts_sum (cell ∷ cells) (text ∷ texts) are =
+      gathered-append (values text) (flat_map values texts) key
+      ∙ ap₂ add_poly are.0 (texts_sum cells texts are.1)
+      ∙ sym (const-add monomials ring_ℚ.semiring zero_test (part key cell) (sum ring_ℚ.semiring cells (part key)))
+      ∙ ap constant (sym (sum-cons ring_ℚ.semiring cell cells (part key)))
+
+pub each_zipped : {A B : Type 0} (P Q : A → B → Type 0) → ((x : A) (y : B) → P x y → Q x y) → (xs : List A) (ys : List B) → AllZip P xs ys → AllZip Q xs ys
+each_zipped P Q step [] [] all = tt
+each_zipped P Q step [] (y ∷ ys) all = absurd all
+each_zipped P Q step (x ∷ xs) [] all = absurd all
+each_zipped P Q step (x ∷ xs) (y ∷ ys) all = (step x y all.0, each_zipped P Q step xs ys all.1)
+
+module _ (model : Model) (e : CouplingEntry) (moves : Moves) (is : IsMoves model e.term e.row e.column moves) where
+  abbrev cells : List (ℕ × ℕ)
+  cells = text_cells e.term e.row e.column
+
+  pub plain_numbers : (key : List ℕ) → length key ≡ 1 + leg_count e.term.kind → gathered_at (map entry (plain_values moves.texts)) key ≡ constant (plain_part model e key)
   plain_numbers key l =
-      side_numbers model e.term.kind (entry_tensor model e) moves.plain_side moves.plain key is.plain l
-      ∙ ap (λ side. constant (on_side side (at_places zero_ℚ (legs_of model e.term.kind) (entry_tensor model e)) key)) is.plain_side
+      texts_sum model e plain_on_side (plain_cell model e) key cells moves.texts
+      (each_zipped (IsText model e.term (entry_block model e)) (IsPart model e plain_on_side (plain_cell model e) key) each cells moves.texts is.texts)
+    where
+      each : (cell : ℕ × ℕ) (text : Text) → IsText model e.term (entry_block model e) cell text → gathered_at (map entry (plain_on_side text)) key ≡ constant (plain_cell model e key cell)
+      each cell text here =
+          side_numbers model e.term.kind (cell_tensor model e.term cell) text.plain_side text.plain key here.plain l
+          ∙ ap (λ side. constant (on_side side (at_key model e.term.kind (cell_tensor model e.term cell)) key)) here.plain_side
 
-  pub conjugate_numbers : (key : List ℕ) → length key ≡ 1 + leg_count e.term.kind → gathered_at (map entry (values_on_side moves.conjugate_side moves.conjugate)) key ≡ constant (conjugate_part model e key)
+  pub conjugate_numbers : (key : List ℕ) → length key ≡ 1 + leg_count e.term.kind → gathered_at (map entry (conjugate_values moves.texts)) key ≡ constant (conjugate_part model e key)
   conjugate_numbers key l =
-      side_numbers model e.term.kind (conjugate_tensor model e) moves.conjugate_side moves.conjugate key is.conjugate l
-      ∙ ap (λ side. constant (on_side side (at_places zero_ℚ (legs_of model e.term.kind) (conjugate_tensor model e)) key)) is.conjugate_side
+      texts_sum model e conjugate_on_side (conjugate_cell model e) key cells moves.texts
+      (each_zipped (IsText model e.term (entry_block model e)) (IsPart model e conjugate_on_side (conjugate_cell model e) key) each cells moves.texts is.texts)
+    where
+      each : (cell : ℕ × ℕ) (text : Text) → IsText model e.term (entry_block model e) cell text → gathered_at (map entry (conjugate_on_side text)) key ≡ constant (conjugate_cell model e key cell)
+      each cell text here =
+          side_numbers model e.term.kind (conjugated e.term.kind (cell_tensor model e.term cell)) text.conjugate_side text.conjugate key here.conjugate l
+          ∙ ap (λ side. constant (on_side side (at_key model e.term.kind (conjugated e.term.kind (cell_tensor model e.term cell))) key)) here.conjugate_side
 
-  pub real_numbers : (key : List ℕ) → length key ≡ 1 + leg_count e.term.kind → gathered_at (map entry (real_values e.term moves)) key ≡ constant (real_part model e key)
+  pub real_numbers : (key : List ℕ) → length key ≡ 1 + leg_count e.term.kind → gathered_at (map entry (real_values e.term moves.texts)) key ≡ constant (real_part model e key)
   real_numbers key l = by_kind (moves_both e.term)
     where
-      by_kind : (b : Bool) → gathered_at (map entry (if b then values_on_side moves.plain_side moves.plain ++ values_on_side moves.conjugate_side moves.conjugate else values_on_side moves.plain_side moves.plain)) key
+      by_kind : (b : Bool) → gathered_at (map entry (if b then plain_values moves.texts ++ conjugate_values moves.texts else plain_values moves.texts)) key
           ≡ constant (if b then plain_part model e key +ℚ conjugate_part model e key else plain_part model e key)
       by_kind true =
-          gathered-append (values_on_side moves.plain_side moves.plain) (values_on_side moves.conjugate_side moves.conjugate) key
+          gathered-append (plain_values moves.texts) (conjugate_values moves.texts) key
           ∙ ap₂ add_poly (plain_numbers key l) (conjugate_numbers key l)
           ∙ sym (const-add monomials ring_ℚ.semiring zero_test (plain_part model e key) (conjugate_part model e key))
       by_kind false = plain_numbers key l
@@ -138,22 +192,22 @@ is_direction place kind symbol block values meant found legs is counted term_is 
       };
     }
 
-module _ (model : Model) (e : CouplingEntry) (moves : Moves) (is : IsMoves model e moves) (place : ℕ) (term : Term) (block : List FieldToken) (values : List Value) (places : e.place ≡ place) (terms : e.term ≡ term) (blocks : block ≡ moves.block) where
+module _ (model : Model) (e : CouplingEntry) (moves : Moves) (is : IsMoves model e.term e.row e.column moves) (place : ℕ) (term : Term) (block : List FieldToken) (values : List Value) (places : e.place ≡ place) (terms : e.term ≡ term) (blocks : block ≡ moves.block) where
   same_length : (key : List ℕ) → length key ≡ 1 + leg_count term.kind → length key ≡ 1 + leg_count e.term.kind
   same_length key l = l ∙ ap (λ t. 1 + leg_count t.kind) (sym terms)
 
   -- the direction of a real symbol
-  pub real_meant : (symbol : Symbol) → symbol_of e ≡ symbol → values ≡ real_values term moves → IsMeant place term.kind symbol block values (direction_of model e (symbol_of e) (real_part model e))
+  pub real_meant : (symbol : Symbol) → symbol_of e ≡ symbol → values ≡ real_values term moves.texts → IsMeant place term.kind symbol block values (direction_of model e (symbol_of e) (real_part model e))
   real_meant symbol symbols filled = record {
     place_is = places;
     kind_is = ap (λ t. t.kind) terms;
     symbol_is = symbols;
     block_is = sym is.block ∙ sym blocks;
-    numbers = λ key l. ap (λ vs. gathered_at (map entry vs) key) (filled ∙ ap (λ t. real_values t moves) (sym terms)) ∙ real_numbers model e moves is key (same_length key l);
+    numbers = λ key l. ap (λ vs. gathered_at (map entry vs) key) (filled ∙ ap (λ t. real_values t moves.texts) (sym terms)) ∙ real_numbers model e moves is key (same_length key l);
   }
 
   -- that of a complex one
-  pub plain_meant : (symbol : Symbol) → symbol_of e ≡ symbol → values ≡ values_on_side moves.plain_side moves.plain → IsMeant place term.kind symbol block values (direction_of model e (symbol_of e) (plain_part model e))
+  pub plain_meant : (symbol : Symbol) → symbol_of e ≡ symbol → values ≡ plain_values moves.texts → IsMeant place term.kind symbol block values (direction_of model e (symbol_of e) (plain_part model e))
   plain_meant symbol symbols filled = record {
     place_is = places;
     kind_is = ap (λ t. t.kind) terms;
@@ -163,7 +217,7 @@ module _ (model : Model) (e : CouplingEntry) (moves : Moves) (is : IsMoves model
   }
 
   -- and that of its conjugate
-  pub conjugate_meant : (symbol : Symbol) → conj_symbol (symbol_of e) ≡ symbol → values ≡ values_on_side moves.conjugate_side moves.conjugate → IsMeant place term.kind symbol block values (direction_of model e (conj_symbol (symbol_of e)) (conjugate_part model e))
+  pub conjugate_meant : (symbol : Symbol) → conj_symbol (symbol_of e) ≡ symbol → values ≡ conjugate_values moves.texts → IsMeant place term.kind symbol block values (direction_of model e (conj_symbol (symbol_of e)) (conjugate_part model e))
   conjugate_meant symbol symbols filled = record {
     place_is = places;
     kind_is = ap (λ t. t.kind) terms;

@@ -4,7 +4,7 @@ use Rattle.model_core.specs.declared.model.Model.{Model}
 use Rattle.model_core.specs.declared.term.Term.{Term}
 use Rattle.model_core.specs.TermRules.{is_term}
 use Rattle.term_expand.proofs.AssignedSums.{text_values_sum, text_values_rank}
-use Rattle.term_expand.proofs.SymbolTensors.{TextValues}
+use Rattle.term_expand.proofs.TextTensors.{TextValues}
 
 -- the values of a term's text add up to it
 pub text_laws : (model : Model) (term : Term) → is_term model term ≡ true → TextValues model term

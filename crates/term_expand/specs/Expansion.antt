@@ -1,12 +1,11 @@
 -- What the expansion of a model is.
 use Rattle.std.specs.List.{All, flat_map}
-use Rattle.std.specs.Prelude.{◌≡◌, ◌+◌, ℕ, ⊤, Bool, if◌then◌else◌, List, [], ◌∷◌, ◌++◌, map, length}
+use Rattle.std.specs.Prelude.{◌≡◌, ◌+◌, ℕ, ⊤, List, [], ◌∷◌, ◌++◌, map, length}
 use Rattle.beta_poly.specs.Polynomial.{Polynomial, poly_ring, zero_poly, add_poly, constant}
-use Rattle.beta_poly.specs.Symbol.{conj_symbol}
 use Rattle.exact_algebra.specs.Sums.{sum}
 use Rattle.beta_poly.specs.declared.symbol.Symbol.{Symbol}
 use Rattle.sparse_tensor.specs.declared.values.Value.{Value}
-use Rattle.sparse_tensor.specs.Tensor.{Tensor, HasValues, rank_of}
+use Rattle.sparse_tensor.specs.Tensor.{HasValues}
 use Rattle.sparse_tensor.specs.Operations.{entry, gathered_at}
 use Rattle.model_core.specs.declared.model.Model.{Model}
 use Rattle.model_core.specs.declared.term.TermKind.{TermKind}
@@ -14,35 +13,13 @@ use Rattle.model_core.specs.declared.term.TermKind.TheVariants.{Fermion, Scalar}
 use Rattle.model_core.specs.TermTensor.{legs_of, at_places}
 use Rattle.model_core.specs.declared.term.Term.{Term}
 use Rattle.model_core.specs.declared.content.FieldToken.{FieldToken}
-use Rattle.model_core.specs.Content.{is_fermionic, conjugate_content}
-use Rattle.model_core.specs.Directions.{CouplingEntry, Direction, directions, entry_directions, yukawa_part, scalar_part, entry_tensor, conjugate_tensor, entry_block, entry_content, side_of, moves_both, yukawa_at, scalar_at}
+use Rattle.model_core.specs.Directions.{CouplingEntry, Direction, directions, entry_directions, yukawa_part, scalar_part, yukawa_at, scalar_at}
 use Rattle.term_expand.specs.declared.directions.Direction.{Direction as Found}
-use Rattle.term_expand.specs.declared.directions.Moves.{Moves}
-use Rattle.term_expand.specs.Multiples.{HasNumbers, values_on_side, multiples}
 use Rattle.term_expand.specs.declared.expansion.Tensors.{Tensors}
 use Rattle.term_expand.specs.declared.expansion.Sums.{Sums}
 use Rattle.term_expand.specs.declared.expansion.Place.{Place}
 use Rattle.term_expand.specs.Texts.{leg_count}
 use Rattle.term_expand.specs.Tokens.{block_name}
-
--- the moves of an entry of a coupling: its block, and its text's tensor and the conjugate one with their sides
-pub record IsMoves (model : Model) (e : CouplingEntry) (moves : Moves) : Type 0 where
-  pub block : moves.block ≡ entry_block model e
-  pub plain_side : moves.plain_side ≡ side_of (entry_block model e) (entry_content e)
-  pub plain : HasNumbers model e.term.kind (entry_tensor model e) moves.plain
-  pub conjugate_side : moves.conjugate_side ≡ side_of (entry_block model e) (conjugate_content model (entry_content e))
-  pub conjugate : HasNumbers model e.term.kind (conjugate_tensor model e) moves.conjugate
-
--- both tensors have the rank of a kind of terms
-pub record HaveRanks (kind : TermKind) (moves : Moves) : Type 0 where
-  pub plain : rank_of moves.plain ≡ leg_count kind
-  pub conjugate : rank_of moves.conjugate ≡ leg_count kind
-
--- the values of the direction of a real symbol
-abbrev pub real_values : Term → Moves → List Value
-real_values term moves =
-    if moves_both term then values_on_side moves.plain_side moves.plain ++ values_on_side moves.conjugate_side moves.conjugate
-    else values_on_side moves.plain_side moves.plain
 
 -- a direction with these parts, whose numbers are the sums of values
 pub record IsMeant (place : ℕ) (kind : TermKind) (symbol : Symbol) (block : List FieldToken) (values : List Value) (meant : Direction) : Type 0 where
@@ -66,16 +43,6 @@ AreDirections (meant ∷ others) (found ∷ rest) = IsDirection meant found × A
 AreDirections _ _ = ⊥
 
 -- ---- what entries add
-
--- the multiples of an entry's tensors that the sums of a kind of terms take
-abbrev pub yukawa_values : Term → Symbol → Tensor → List Value
-yukawa_values term symbol plain = if is_fermionic term.kind then multiples symbol plain else []
-
-abbrev pub conjugate_values : Bool → Symbol → Tensor → Tensor → List Value
-conjugate_values hc symbol plain other = if hc then multiples symbol plain ++ multiples (conj_symbol symbol) other else multiples symbol plain
-
-abbrev pub scalar_values : Term → Symbol → Tensor → Tensor → List Value
-scalar_values term symbol plain other = if is_fermionic term.kind then [] else conjugate_values term.hc symbol plain other
 
 -- the parts of entries in the two tensors
 abbrev pub yukawa_sum : Model → List CouplingEntry → List ℕ → Polynomial

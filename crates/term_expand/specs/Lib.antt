@@ -7,4 +7,5 @@ pub mod LinkSteps
 pub mod Steps
 pub mod Multiples
 pub mod Parity
+pub mod Moves
 pub mod Expansion

@@ -1,5 +1,5 @@
--- The values of a symbol's text with one way to give the legs to the fields: a key and a number for each assignment.
-use Rattle.std.specs.Prelude.{ℕ, ◌-◌, if◌then◌else◌, List, [], ◌∷◌, ◌++◌, map, length, replicate}
+-- The values of a term's text with one way to give the legs to the fields: a key and a number for each assignment.
+use Rattle.std.specs.Prelude.{ℕ, ◌-◌, List, [], ◌∷◌, ◌++◌, map, length, replicate}
 use Rattle.std.specs.List.{flat_map}
 use Rattle.frac128.specs.Rational.{zero_ℚ, ◌*ℚ◌}
 use Rattle.beta_poly.specs.Polynomial.{constant}
@@ -11,7 +11,7 @@ use Rattle.model_core.specs.declared.term.Monomial.{Monomial}
 use Rattle.model_core.specs.declared.term.Term.{Term}
 use Rattle.model_core.specs.ComponentLists.{scalar_list}
 use Rattle.model_core.specs.MonomialValue.{factors_at, text_at}
-use Rattle.model_core.specs.TermTensor.{Numbers, has_two_texts}
+use Rattle.model_core.specs.TermTensor.{Numbers}
 use Rattle.term_expand.specs.declared.assignments.Assignment.{Assignment}
 use Rattle.term_expand.specs.Assignments.{assignments}
 
@@ -46,9 +46,3 @@ abbrev pub one_way : Model → Term → ℕ → ℕ → TermKind → Numbers
 one_way model term row column Fermion (j ∷ k ∷ a ∷ []) = text_at model term row column (j ∷ k ∷ []) (a ∷ [])
 one_way model term row column Fermion _ = zero_ℚ
 one_way model term row column Scalar cs = text_at model term row column [] cs
-
--- those of the texts of a symbol
-abbrev pub symbol_values : Model → Term → ℕ → ℕ → List Value
-symbol_values model term row column =
-    if has_two_texts term row column then text_values model term row column ++ text_values model term column row
-    else text_values model term row column

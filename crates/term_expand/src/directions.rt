@@ -3,20 +3,18 @@ ghost use Rattle.std.specs.Prelude.{◌≡◌, ◌+◌, ◌∷◌, ◌++◌, [],
 ghost use Rattle.std.specs.List.{All};
 ghost use Rattle.sparse_tensor.specs.Refusals.{IsTensorRefusal};
 ghost use Rattle.model_core.specs.declared.model.Model.{Model as ModelValue};
-ghost use Rattle.model_core.specs.Directions.{CouplingEntry, Direction as Meant, side_of, symbol_of, conjugated, moves_both, entry_directions};
-ghost use Rattle.model_core.specs.TermTensor.{symbol_tensor};
-ghost use Rattle.term_expand.specs.Expansion.{AreDirections, HaveRanks, IsMeant, IsMoves, real_values};
+ghost use Rattle.model_core.specs.Directions.{CouplingEntry, Direction as Meant, symbol_of, moves_both, entry_directions};
+ghost use Rattle.term_expand.specs.Expansion.{AreDirections, IsMeant};
+ghost use Rattle.term_expand.specs.Moves.{HaveRanks, IsMoves, plain_values, conjugate_values, real_values};
 ghost use Rattle.term_expand.specs.Texts.{leg_count};
-ghost use Rattle.term_expand.specs.Multiples.{HasNumbers, values_on_side};
+ghost use Rattle.term_expand.specs.Multiples.{values_on_side};
 
+use crate::moves::{Moves, Text};
 use crate::texts::leg_count;
 use crate::token::{BlockName, block_name};
 use beta_poly::Symbol;
 use frac128::{ItemList, NumberList};
-use model_core::{
-    Content, FieldToken, Model, Term, TermKind, block_of, conjugate_content, content_at,
-    first_uses, same_block,
-};
+use model_core::{FieldToken, Term, TermKind};
 use sparse_tensor::{Sparse, TensorFault, Value, ValueList};
 use std::alloc::{AllocError, Global};
 
@@ -34,57 +32,6 @@ pub struct Direction {
 
 /// Directions in the order of terms, then symbols, the plain symbol before its conjugate.
 pub type DirectionList = ItemList<Direction>;
-
-/// A symbol with its text's tensor and the conjugate one, and the sides of its block on which these stand.
-#[derive(Drop)]
-pub struct Moves {
-    pub block: Content,
-    pub plain_side: u32,
-    pub plain: Sparse,
-    pub conjugate_side: u32,
-    pub conjugate: Sparse,
-}
-
-/// The side of a block that a content is: 0 for its own, and 1 for the conjugate one.
-fn side_of(block: &[FieldToken], content: &[FieldToken]) -> u32
-    ensures { result ≡ side_of block.now content.now }
-{
-    if same_block(content, block) {
-        return 0;
-    }
-    1
-}
-
-/// The moves of the symbol at a row and a column.
-pub fn moves_of(
-    alloc: Global,
-    model: &Model,
-    term: &Term,
-    row: u32,
-    column: u32,
-    plain: Sparse,
-    conjugate: Sparse,
-) -> Result<Moves, AllocError>
-    requires plain { HasNumbers model.now term.now.kind (symbol_tensor model.now term.now row column) plain }
-    requires conjugate { HasNumbers model.now term.now.kind (conjugated term.now.kind (symbol_tensor model.now term.now row column)) conjugate }
-    ensures { (e : CouplingEntry) → e.term ≡ term.now → e.row ≡ row → e.column ≡ column → IfOk result (IsMoves model.now e) }
-{
-    let uses = first_uses(alloc, term.monomials.as_slice())?;
-    let content = content_at(alloc, uses.as_slice(), row, column)?;
-    let other = conjugate_content(alloc, model, content.as_slice())?;
-    let block = block_of(
-        alloc,
-        model,
-        content_at(alloc, uses.as_slice(), row, column)?,
-    )?;
-    Ok(Moves {
-        plain_side: side_of(block.as_slice(), content.as_slice()),
-        conjugate_side: side_of(block.as_slice(), other.as_slice()),
-        block,
-        plain,
-        conjugate,
-    })
-}
 
 /// A key behind a side.
 fn key_on_side(alloc: Global, side: u32, key: &[u32]) -> Result<NumberList, AllocError>
@@ -117,12 +64,41 @@ fn push_on_side(
     Ok(())
 }
 
-/// A tensor of numbers on a side.
-fn side_values(alloc: Global, side: u32, tensor: &Sparse) -> Result<ValueList, AllocError>
-    ensures { IfOk result (λ values. values ≡ values_on_side side tensor.now) }
+/// Adds the tensors of texts on the sides of their contents.
+fn push_plain(alloc: Global, values: &mut ValueList, texts: &[Text]) -> Result<(), AllocError>
+    ensures { OnOk result (values.new ≡ values.old ++ plain_values texts.now) }
+{
+    for text in texts {
+        push_on_side(alloc, values, text.plain_side, &text.plain)?;
+    }
+    Ok(())
+}
+
+/// Adds the conjugate tensors of texts on the sides of the conjugate contents.
+fn push_conjugate(alloc: Global, values: &mut ValueList, texts: &[Text]) -> Result<(), AllocError>
+    ensures { OnOk result (values.new ≡ values.old ++ conjugate_values texts.now) }
+{
+    for text in texts {
+        push_on_side(alloc, values, text.conjugate_side, &text.conjugate)?;
+    }
+    Ok(())
+}
+
+/// The numbers of the direction of a symbol that isn't real.
+fn plain_values(alloc: Global, texts: &[Text]) -> Result<ValueList, AllocError>
+    ensures { IfOk result (λ values. values ≡ plain_values texts.now) }
 {
     let mut values = ValueList::new(alloc);
-    push_on_side(alloc, &mut values, side, tensor)?;
+    push_plain(alloc, &mut values, texts)?;
+    Ok(values)
+}
+
+/// Those of the direction of its conjugate.
+fn conjugate_values(alloc: Global, texts: &[Text]) -> Result<ValueList, AllocError>
+    ensures { IfOk result (λ values. values ≡ conjugate_values texts.now) }
+{
+    let mut values = ValueList::new(alloc);
+    push_conjugate(alloc, &mut values, texts)?;
     Ok(values)
 }
 
@@ -158,13 +134,13 @@ fn moves_both(term: &Term) -> bool
 }
 
 /// The numbers of the direction of a real symbol.
-fn real_values(alloc: Global, term: &Term, moves: &Moves) -> Result<ValueList, AllocError>
-    ensures { IfOk result (λ values. values ≡ real_values term.now moves.now) }
+fn real_values(alloc: Global, term: &Term, texts: &[Text]) -> Result<ValueList, AllocError>
+    ensures { IfOk result (λ values. values ≡ real_values term.now texts.now) }
 {
     let mut values = ValueList::new(alloc);
-    push_on_side(alloc, &mut values, moves.plain_side, &moves.plain)?;
+    push_plain(alloc, &mut values, texts)?;
     if moves_both(term) {
-        push_on_side(alloc, &mut values, moves.conjugate_side, &moves.conjugate)?;
+        push_conjugate(alloc, &mut values, texts)?;
         return Ok(values);
     }
     Ok(values)
@@ -179,11 +155,11 @@ pub fn push_real(
     symbol: Symbol,
     moves: &Moves,
 ) -> Result<(), TensorFault>
-    requires { HaveRanks term.now.kind moves.now }
-    ensures value { (model : ModelValue) (e : CouplingEntry) (before : List Meant) → e.term ≡ term.now → e.place ≡ place → symbol_of e ≡ symbol → e.term.real ≡ true → IsMoves model e moves.now → AreDirections before found.old → OnOk result (AreDirections (before ++ entry_directions model e) found.new) }
+    requires { HaveRanks term.now.kind moves.now.texts }
+    ensures value { (model : ModelValue) (e : CouplingEntry) (before : List Meant) → e.term ≡ term.now → e.place ≡ place → symbol_of e ≡ symbol → e.term.real ≡ true → IsMoves model e.term e.row e.column moves.now → AreDirections before found.old → OnOk result (AreDirections (before ++ entry_directions model e) found.new) }
     ensures refused { IfErr result IsTensorRefusal }
 {
-    let values = real_values(alloc, term, moves)?;
+    let values = real_values(alloc, term, moves.texts.as_slice())?;
     push_direction(
         alloc,
         found,
@@ -204,14 +180,14 @@ pub fn push_complex(
     symbol: Symbol,
     moves: &Moves,
 ) -> Result<(), TensorFault>
-    requires { HaveRanks term.now.kind moves.now }
-    ensures value { (model : ModelValue) (e : CouplingEntry) (before : List Meant) → e.term ≡ term.now → e.place ≡ place → symbol_of e ≡ symbol → e.term.real ≡ false → IsMoves model e moves.now → AreDirections before found.old → OnOk result (AreDirections (before ++ entry_directions model e) found.new) }
+    requires { HaveRanks term.now.kind moves.now.texts }
+    ensures value { (model : ModelValue) (e : CouplingEntry) (before : List Meant) → e.term ≡ term.now → e.place ≡ place → symbol_of e ≡ symbol → e.term.real ≡ false → IsMoves model e.term e.row e.column moves.now → AreDirections before found.old → OnOk result (AreDirections (before ++ entry_directions model e) found.new) }
     ensures refused { IfErr result IsTensorRefusal }
 {
     let block = moves.block.as_slice();
-    let plain = side_values(alloc, moves.plain_side, &moves.plain)?;
+    let plain = plain_values(alloc, moves.texts.as_slice())?;
     push_direction(alloc, found, place, term.kind, symbol, block, plain)?;
-    let other = side_values(alloc, moves.conjugate_side, &moves.conjugate)?;
+    let other = conjugate_values(alloc, moves.texts.as_slice())?;
     push_direction(
         alloc,
         found,

@@ -6,13 +6,14 @@ ghost use Rattle.model_core.specs.Directions.{CouplingEntry, Direction as Meant,
 ghost use Rattle.model_core.specs.Content.{columns_at, symbol_count};
 ghost use Rattle.model_core.specs.TermRules.{is_term};
 ghost use Rattle.model_core.specs.Valid.{IsValid};
-ghost use Rattle.term_expand.specs.Expansion.{AreDirections, HaveRanks, IsMoves, Adds, entry_of, yukawa_values, conjugate_values, scalar_values, no_sums, IsExpansion};
+ghost use Rattle.term_expand.specs.Expansion.{AreDirections, Adds, entry_of, no_sums, IsExpansion};
+ghost use Rattle.term_expand.specs.Moves.{HaveRanks, IsMoves, plain_multiples, text_multiples, scalar_multiples, yukawa_values, scalar_values};
 ghost use Rattle.term_expand.specs.Projectors.{IsBasis};
 
 use crate::basis::{Basis, basis_of};
-use crate::directions::{DirectionList, Moves, moves_of, push_complex, push_real};
-use crate::multiples::{conjugate, push_multiples};
-use crate::texts::symbol_tensor;
+use crate::directions::{DirectionList, push_complex, push_real};
+use crate::moves::{Moves, Text, moves_of};
+use crate::multiples::push_multiples;
 use beta_poly::Symbol;
 use model_core::{Model, Term, TermKind, first_column, symbol_count};
 use sparse_tensor::{Sparse, TensorFault, ValueList};
@@ -53,7 +54,7 @@ fn push_scalar(
     other: &Sparse,
 ) -> Result<(), AllocError>
     requires { IsTrue symbol.real → symbol.conj ≡ false }
-    ensures { OnOk result (values.new ≡ values.old ++ conjugate_values hc symbol plain.now other.now) }
+    ensures { OnOk result (values.new ≡ values.old ++ text_multiples hc symbol plain.now other.now) }
 {
     push_multiples(alloc, values, symbol, plain)?;
     if hc {
@@ -62,23 +63,57 @@ fn push_scalar(
     Ok(())
 }
 
-/// Adds the multiples of a symbol's tensors to the sums of its kind of terms.
+/// Adds the multiples of the tensors of texts by a symbol.
+fn push_plain_multiples(
+    alloc: Global,
+    values: &mut ValueList,
+    symbol: Symbol,
+    texts: &[Text],
+) -> Result<(), AllocError>
+    requires { IsTrue symbol.real → symbol.conj ≡ false }
+    ensures { OnOk result (values.new ≡ values.old ++ plain_multiples symbol texts.now) }
+{
+    for text in texts {
+        push_multiples(alloc, values, symbol, &text.plain)?;
+    }
+    Ok(())
+}
+
+/// The same of scalar terms, with those of the conjugates that are added.
+fn push_scalar_multiples(
+    alloc: Global,
+    values: &mut ValueList,
+    hc: bool,
+    symbol: Symbol,
+    texts: &[Text],
+) -> Result<(), AllocError>
+    requires { IsTrue symbol.real → symbol.conj ≡ false }
+    ensures { OnOk result (values.new ≡ values.old ++ scalar_multiples hc symbol texts.now) }
+{
+    for text in texts {
+        push_scalar(alloc, values, hc, symbol, &text.plain, &text.conjugate)?;
+    }
+    Ok(())
+}
+
+/// Adds the multiples of the tensors of a symbol's texts to the sums of its kind of terms.
 fn add_values(
     alloc: Global,
     sums: &mut Sums,
     term: &Term,
     symbol: Symbol,
-    plain: &Sparse,
-    other: &Sparse,
+    texts: &[Text],
 ) -> Result<(), AllocError>
     requires { IsTrue symbol.real → symbol.conj ≡ false }
-    ensures yukawa { OnOk result (sums.new.yukawa ≡ sums.old.yukawa ++ yukawa_values term.now symbol plain.now) }
-    ensures scalar { OnOk result (sums.new.scalar ≡ sums.old.scalar ++ scalar_values term.now symbol plain.now other.now) }
+    ensures yukawa { OnOk result (sums.new.yukawa ≡ sums.old.yukawa ++ yukawa_values term.now symbol texts.now) }
+    ensures scalar { OnOk result (sums.new.scalar ≡ sums.old.scalar ++ scalar_values term.now symbol texts.now) }
     ensures directions { sums.new.directions ≡ sums.old.directions }
 {
     match term.kind {
-        TermKind::Fermion => push_multiples(alloc, &mut sums.yukawa, symbol, plain),
-        TermKind::Scalar => { push_scalar(alloc, &mut sums.scalar, term.hc, symbol, plain, other) }
+        TermKind::Fermion => push_plain_multiples(alloc, &mut sums.yukawa, symbol, texts),
+        TermKind::Scalar => {
+            push_scalar_multiples(alloc, &mut sums.scalar, term.hc, symbol, texts)
+        }
     }
 }
 
@@ -91,8 +126,8 @@ fn add_directions(
     symbol: Symbol,
     moves: &Moves,
 ) -> Result<(), TensorFault>
-    requires { HaveRanks term.now.kind moves.now }
-    ensures value { (model : ModelValue) (e : CouplingEntry) (before : List Meant) → e.term ≡ term.now → e.place ≡ place → symbol_of e ≡ symbol → IsMoves model e moves.now → AreDirections before found.old → OnOk result (AreDirections (before ++ entry_directions model e) found.new) }
+    requires { HaveRanks term.now.kind moves.now.texts }
+    ensures value { (model : ModelValue) (e : CouplingEntry) (before : List Meant) → e.term ≡ term.now → e.place ≡ place → symbol_of e ≡ symbol → IsMoves model e.term e.row e.column moves.now → AreDirections before found.old → OnOk result (AreDirections (before ++ entry_directions model e) found.new) }
     ensures refused { IfErr result IsTensorRefusal }
 {
     if term.real {
@@ -123,10 +158,8 @@ fn add_entry(
         real: term.real,
         conj: false,
     };
-    let plain = symbol_tensor(alloc, model, basis, term, row, column)?;
-    let other = conjugate(alloc, model, term.kind, &plain)?;
-    add_values(alloc, sums, term, symbol, &plain, &other)?;
-    let moves = moves_of(alloc, model, term, row, column, plain, other)?;
+    let moves = moves_of(alloc, model, basis, term, row, column)?;
+    add_values(alloc, sums, term, symbol, moves.texts.as_slice())?;
     add_directions(
         alloc,
         &mut sums.directions,

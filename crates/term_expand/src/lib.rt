@@ -7,6 +7,7 @@ mod candidates;
 mod directions;
 mod expansion;
 mod links;
+mod moves;
 mod multiples;
 mod texts;
 mod token;

@@ -1,23 +1,23 @@
-//! The tensor of a symbol's text.
+//! The tensor of a term's text.
 ghost use Rattle.std.specs.Prelude.{◌≡◌, ◌++◌, ◌-◌, true, length, replicate, IfOk, OnOk, IfErr};
 ghost use Rattle.beta_poly.specs.Monomial.{one_monomial};
 ghost use Rattle.beta_poly.specs.Polynomial.{constant};
 ghost use Rattle.sparse_tensor.specs.Refusals.{IsTensorRefusal};
 ghost use Rattle.sparse_tensor.specs.Tensor.{HasValues, rank_of, value};
 ghost use Rattle.model_core.specs.TermRules.{is_term};
-ghost use Rattle.model_core.specs.TermTensor.{has_two_texts, symbol_tensor};
+ghost use Rattle.model_core.specs.TermTensor.{text_tensor};
 ghost use Rattle.model_core.specs.Valid.{IsValid};
 ghost use Rattle.term_expand.specs.Multiples.{HasNumbers};
 ghost use Rattle.term_expand.specs.Projectors.{IsBasis};
 ghost use Rattle.term_expand.specs.Steps.{fermion_steps, scalar_steps, steps};
-ghost use Rattle.term_expand.specs.Texts.{leg_count, given_places, key_of, value_of_assignment, monomial_values, text_values, symbol_values};
+ghost use Rattle.term_expand.specs.Texts.{leg_count, given_places, key_of, value_of_assignment, monomial_values, text_values};
 
 use crate::assignments::{Assignment, assignments, copied};
 use crate::basis::Basis;
 use crate::values::monomial_value;
 use beta_poly::{Mono, Poly, Symbol};
 use frac128::{Frac, NumberList};
-use model_core::{Model, Monomial, Shape, Term, TermKind};
+use model_core::{Model, Monomial, Term, TermKind};
 use sparse_tensor::{Sparse, TensorFault, Value, ValueList};
 use std::alloc::{AllocError, Global};
 
@@ -162,13 +162,6 @@ fn push_text(
     Ok(())
 }
 
-/// Whether a symbol has the texts at [i,j] and at [j,i].
-fn has_two_texts(term: &Term, row: u32, column: u32) -> bool
-    ensures { result ≡ has_two_texts term.now row column }
-{
-    term.shape == Shape::Symmetric && row != column
-}
-
 /// The tensor of two fermions and a scalar, projected on each leg, all ways to give the legs added.
 fn fermion_tensor(alloc: Global, basis: &Basis, raw: &Sparse) -> Result<Sparse, TensorFault>
     requires { rank_of raw.now ≡ 3 }
@@ -211,8 +204,8 @@ fn tensor_of(
     }
 }
 
-/// The values of the texts of a symbol, with one way to give the legs to the fields.
-fn symbol_values(
+/// The values of a term's text at an entry of its coupling, with one way to give the legs to the fields.
+fn text_values(
     alloc: Global,
     model: &Model,
     basis: &Basis,
@@ -222,19 +215,16 @@ fn symbol_values(
 ) -> Result<ValueList, TensorFault>
     requires valid { IsValid model.now }
     requires basis { IsBasis model.now basis.now }
-    ensures value { IfOk result (λ values. values ≡ symbol_values model.now term.now row column) }
+    ensures value { IfOk result (λ values. values ≡ text_values model.now term.now row column) }
     ensures refused { IfErr result IsTensorRefusal }
 {
     let mut values = ValueList::new(alloc);
     push_text(alloc, &mut values, model, basis, term, row, column)?;
-    if has_two_texts(term, row, column) {
-        push_text(alloc, &mut values, model, basis, term, column, row)?;
-    }
     Ok(values)
 }
 
-/// The tensor of the text of the symbol at a row and a column.
-pub fn symbol_tensor(
+/// The tensor of a term's text at a row and a column.
+pub fn text_tensor(
     alloc: Global,
     model: &Model,
     basis: &Basis,
@@ -245,10 +235,10 @@ pub fn symbol_tensor(
     requires valid { IsValid model.now }
     requires basis { IsBasis model.now basis.now }
     requires term { is_term model.now term.now ≡ true }
-    ensures value { IfOk result (HasNumbers model.now term.now.kind (symbol_tensor model.now term.now row column)) }
+    ensures value { IfOk result (HasNumbers model.now term.now.kind (text_tensor model.now term.now row column)) }
     ensures refused { IfErr result IsTensorRefusal }
 {
-    let values = symbol_values(alloc, model, basis, term, row, column)?;
+    let values = text_values(alloc, model, basis, term, row, column)?;
     let raw = Sparse::gather(alloc, leg_count(term.kind), values)?;
     tensor_of(alloc, term.kind, basis, &raw)
 }
