@@ -18,9 +18,8 @@ use Rattle.model_core.specs.declared.term.TermKind.{TermKind}
 use Rattle.model_core.specs.declared.term.TermKind.TheVariants.{Fermion, Scalar}
 use Rattle.model_core.specs.Content.{kind_cmp, token_cmp, content_cmp, same_block, columns_at, symbol_count, directions_of as count_of, symbol_block, row_blocks, term_blocks, directions_in, block_directions, is_few, have_few_directions}
 use Rattle.model_core.specs.Directions.{CouplingEntry, Direction, cells_in, cells, numbered, entries_from, entries, symbol_of, plain_part, conjugate_part, real_part, direction_of, entry_block, entry_directions, directions}
-use Rattle.model_core.specs.TermRules.{are_terms}
-use Rattle.model_core.specs.Valid.{IsValid, has_valid_names}
-use Rattle.model_core.proofs.ValidLaws.{both}
+use Rattle.model_core.specs.Valid.{IsValid}
+use Rattle.model_core.proofs.ValidLaws.{both, terms_meet}
 use Rattle.term_expand.specs.declared.token.Token.{Token}
 use Rattle.derive_core.specs.Blocks.{name_of, is_of, directions_of}
 use Rattle.derive_core.proofs.BlockNames.{name_same, blocks_alike}
@@ -120,7 +119,7 @@ module _ (model : Model) where
 
 few_blocks : (model : Model) → IsValid model → have_few_directions (flat_map (term_blocks model) model.terms) ≡ true
 few_blocks model valid =
-    (both _ (have_few_directions (flat_map (term_blocks model) model.terms)) (both (has_valid_names model) (are_terms model model.terms) valid).1).1
+    (both _ (have_few_directions (flat_map (term_blocks model) model.terms)) (terms_meet model valid)).1
 
 -- ---- at most four
 

@@ -15,7 +15,7 @@ use Rattle.model_core.specs.Scalar.{scalar_components}
 use Rattle.model_core.proofs.Traces.{AreSpecial}
 use Rattle.model_core.specs.Groups.{is_between, is_abelian}
 use Rattle.model_core.specs.TermRules.{are_terms}
-use Rattle.model_core.specs.Valid.{has_one_abelian, is_group, is_rep, are_reps, has_charge_of, is_field, are_groups, has_valid_fields, has_valid_parts, are_distinct, names_of, IsValid, has_few_components, has_valid_names, are_scalars, are_fields, is_scalar, are_tables}
+use Rattle.model_core.specs.Valid.{has_one_abelian, is_group, is_rep, are_reps, has_charge_of, is_field, are_groups, has_valid_fields, has_valid_parts, are_distinct, names_of, IsValid, has_few_components, has_valid_names, has_file_values, are_scalars, are_fields, is_scalar, are_tables}
 
 -- both tests hold
 pub both : (a b : Bool) → (a && b) ≡ true → (a ≡ true) × (b ≡ true)
@@ -49,7 +49,13 @@ length-reps (group ∷ groups) (rep ∷ reps) e = ap suc (length-reps groups rep
 -- ---- the parts of a valid model
 
 pub valid_names : (model : Model) → IsValid model → has_valid_names model ≡ true
-valid_names model valid = (both (has_valid_names model) (are_terms model model.terms) valid).0
+valid_names model valid = (both (has_valid_names model) (are_terms model model.terms && has_file_values model) valid).0
+
+pub terms_meet : (model : Model) → IsValid model → are_terms model model.terms ≡ true
+terms_meet model valid = (both (are_terms model model.terms) (has_file_values model) (both (has_valid_names model) (are_terms model model.terms && has_file_values model) valid).1).0
+
+pub valid_values : (model : Model) → IsValid model → has_file_values model ≡ true
+valid_values model valid = (both (are_terms model model.terms) (has_file_values model) (both (has_valid_names model) (are_terms model model.terms && has_file_values model) valid).1).1
 
 pub valid_parts : (model : Model) → IsValid model → has_valid_parts model ≡ true
 valid_parts model valid = (both (has_valid_parts model) (has_few_components model) (both _ (are_distinct (names_of model)) (valid_names model valid)).0).0

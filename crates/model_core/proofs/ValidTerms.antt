@@ -8,13 +8,13 @@ use Rattle.model_core.specs.declared.term.Term.{Term}
 use Rattle.model_core.specs.Groups.{is_between}
 use Rattle.model_core.specs.Content.{symbol_count}
 use Rattle.model_core.specs.TermRules.{has_monomials, has_shape, has_one_content, has_good_monomials, has_good_coupling, has_small_sizes, is_term, has_few_symbols, are_terms}
-use Rattle.model_core.specs.Valid.{has_valid_names, IsValid}
-use Rattle.model_core.proofs.ValidLaws.{both, between}
+use Rattle.model_core.specs.Valid.{IsValid}
+use Rattle.model_core.proofs.ValidLaws.{both, between, terms_meet}
 
 -- few enough terms, each of which meets its rules, with few enough symbols
 valid_terms : (model : Model) → IsValid model → ((nat_le (length model.terms) 64 ≡ true) × (list_all (is_term model) model.terms ≡ true)) × (has_few_symbols model.terms ≡ true)
 valid_terms model valid =
-    let all = (both (has_valid_names model) (are_terms model model.terms) valid).1 in
+    let all = terms_meet model valid in
     let counted = both _ (has_few_symbols model.terms) (both _ _ all).0 in
     (both (nat_le (length model.terms) 64) (list_all (is_term model) model.terms) counted.0, counted.1)
 

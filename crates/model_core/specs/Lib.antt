@@ -8,6 +8,7 @@ pub mod Leg
 pub mod Place
 pub mod Multiplet
 pub mod Fault
+pub mod FileValues
 pub mod Literal
 pub mod Document
 pub mod Walk

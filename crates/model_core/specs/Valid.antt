@@ -1,5 +1,5 @@
--- Which models are valid: the rules on a model's parts and the limits of its sizes.
-use Rattle.std.specs.Prelude.{ℕ, Bool, true, false, ◌&&◌, ◌||◌, not, nat_le, List, [], ◌∷◌, ◌++◌, map, length, IsTrue}
+-- Which models are valid: the rules on a model's parts, the limits of its sizes, and what the values of a file are.
+use Rattle.std.specs.Prelude.{ℕ, Bool, true, false, ◌&&◌, ◌||◌, not, ◌==◌, nat_le, List, [], ◌∷◌, ◌++◌, map, length, IsTrue}
 use Rattle.std.specs.List.{flat_map, list_all, list_any}
 use Rattle.std.specs.Str.{bytes_eq}
 use Rattle.model_core.specs.declared.group.Group.{Group}
@@ -15,6 +15,8 @@ use Rattle.model_core.specs.Groups.{is_between, is_abelian, is_slot, slot_size}
 use Rattle.model_core.specs.Component.{fermion_components}
 use Rattle.model_core.specs.Scalar.{scalar_components}
 use Rattle.model_core.specs.TermRules.{are_terms}
+use Rattle.model_core.specs.Name.{is_name, is_latex}
+use Rattle.model_core.specs.FileValues.{latex_of, has_file_fractions, are_labels_numbered}
 
 -- no text stands twice
 abbrev pub are_distinct : List (List ℕ) → Bool
@@ -137,9 +139,21 @@ has_few_components model = nat_le (length (fermion_components model)) 512 && nat
 abbrev pub has_valid_names : Model → Bool
 has_valid_names model = (has_valid_parts model && has_few_components model) && are_distinct (names_of model)
 
--- and terms that meet their rules
+-- the profile is 1, and each name is one; so is each text in LaTeX
+abbrev pub has_file_texts : Model → Bool
+has_file_texts model = (model.profile == 1 && list_all is_name (model.name ∷ names_of model)) && list_all is_latex (latex_of model)
+
+-- only a scalar may be real
+abbrev pub is_complex : Field → Bool
+is_complex field = not field.real
+
+-- what the values of a file are: its texts and fractions, complex fermions, and labels in the order of their places
+unfoldable pub has_file_values : Model → Bool
+has_file_values model = (has_file_texts model && has_file_fractions model) && (list_all is_complex model.fermions && list_all are_labels_numbered model.terms)
+
+-- and terms that meet their rules, and values as a file has them
 abbrev pub is_valid : Model → Bool
-is_valid model = has_valid_names model && are_terms model model.terms
+is_valid model = has_valid_names model && (are_terms model model.terms && has_file_values model)
 
 abbrev pub IsValid : Model → Type 0
 IsValid model = IsTrue (is_valid model)

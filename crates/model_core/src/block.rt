@@ -2,6 +2,7 @@
 ghost use Rattle.std.specs.Prelude.{◌≡◌, ◌≤◌, ◌-◌, ◌++◌, suc, true, length, map, IfOk, sum_by};
 ghost use Rattle.std.specs.List.{filter, list_all};
 ghost use Rattle.model_core.specs.Content.{block_at, first_column, columns_at, rows_of, symbols_at, symbol_count, is_mirrored, row_is_mirrored, has_mirrored_blocks, directions_of, symbol_block, row_blocks, term_blocks, directions_in, has_small_directions, block_directions, is_few, have_few_directions, first_uses};
+ghost use Rattle.model_core.specs.TermRules.{has_small_sizes};
 ghost use Rattle.model_core.specs.TermWalk.{is_overfull, first_after, first_block};
 
 use crate::content::{
@@ -45,6 +46,19 @@ pub fn symbol_count(term: &Term) -> u32
     let mut count = 0;
     for place in 0..term.rows {
         count += symbols_at(term, place + 1);
+    }
+    count
+}
+
+/// How many symbols the couplings of some terms have.
+pub fn symbols_of(terms: &[Term]) -> u32
+    requires few { length terms.now ≤ 64 }
+    requires small { list_all has_small_sizes terms.now ≡ true }
+    ensures { result ≡ sum_by symbol_count terms.now }
+{
+    let mut count = 0;
+    for term in terms {
+        count += symbol_count(term);
     }
     count
 }

@@ -1,17 +1,15 @@
 //! The factors of a monomial: which labels they have, which slots, and how labels join these.
-ghost use Rattle.std.specs.Prelude.{◌≡◌, [], ◌∷◌, ◌+◌, ◌*◌, ◌≤◌, ◌++◌, ◌&&◌, ◌==◌, ◌||◌, not, suc, true, length, replicate, slice_get, Some, IfOk};
-ghost use Rattle.std.specs.List.{list_all, list_any, count_by, flat_map};
-ghost use Rattle.model_core.specs.Groups.{is_between};
+ghost use Rattle.std.specs.Prelude.{◌≡◌, ◌+◌, ◌*◌, ◌≤◌, ◌++◌, ◌==◌, ◌||◌, not, true, length, replicate, slice_get, Some, IfOk};
+ghost use Rattle.std.specs.List.{list_all, list_any, count_by};
 ghost use Rattle.model_core.specs.Valid.{has_valid_parts};
-ghost use Rattle.model_core.specs.Factors.{labels_of, all_labels, rep_slots, has_few_reps, slots_of_field, slots_of_table, labelled, labelled_slots_of, labelled_slots, is_in_field, joins_two, has_label, group_of_label, has_group_of, joins_one_group, is_joined, spans_group, eps_fits, is_tensor, is_generation_of, fits_field, fits_table, is_factor, are_factors, are_joined};
+ghost use Rattle.model_core.specs.Factors.{labels_of, all_labels, rep_slots, has_few_reps, slots_of_field, slots_of_table, labelled, labelled_slots_of, labelled_slots, is_in_field, joins_two, has_label, group_of_label, joins_one_group, spans_group, eps_fits};
 
 use crate::content::{LabelledSlot, LabelledSlotList};
 use crate::field::Field;
-use crate::group::Group;
+use crate::group::{Group, slot_size};
 use crate::model::Model;
 use crate::table::Table;
-use crate::term::{Factor, Generation};
-use crate::valid::{is_between, slot_size};
+use crate::term::Factor;
 use frac128::NumberList;
 use std::alloc::{AllocError, Global};
 use su_reps::{Rep, slots};
@@ -302,181 +300,4 @@ pub fn eps_fits(groups: &[Group], slots: &[LabelledSlot], factor: &Factor) -> bo
         Factor::Eps { labels } => spans_group(groups, slots, labels.as_slice()),
         _ => true,
     }
-}
-
-/// Whether a field has the generation; each field has those of rows and columns.
-fn is_generation_of(field: &Field, generation: Generation) -> bool
-    ensures { result ≡ is_generation_of field.now generation }
-{
-    match generation {
-        Generation::Fixed(number) => is_between(1, field.generations as usize, number as usize),
-        _ => true,
-    }
-}
-
-/// Whether there is a label for each slot of these representations.
-fn has_label_each(reps: &[Rep], labels: &[u32]) -> bool
-    requires { length reps.now ≤ 4 }
-    ensures { result ≡ (length labels.now == length (rep_slots 0 reps.now)) }
-{
-    labels.len() == slot_count(reps) as usize
-}
-
-/// Whether a factor fits its field: a generation that it has, a label for each slot, and no conjugate of a real scalar.
-fn fits(field: &Field, conj: bool, generation: Generation, labels: &[u32]) -> bool
-    requires { length field.now.reps ≤ 4 }
-    ensures { result ≡ fits_field (Some field.now) conj generation labels.now }
-{
-    if !is_generation_of(field, generation) {
-        return false;
-    }
-    if !has_label_each(field.reps.as_slice(), labels) {
-        return false;
-    }
-    !(conj && field.real)
-}
-
-/// Whether there is a field at this place, and a factor fits it.
-#[tactic(auto, using(crate::proofs::FactorLaws::few_at))]
-fn fits_field(
-    fields: &[Field],
-    place: u32,
-    conj: bool,
-    generation: Generation,
-    labels: &[u32],
-) -> bool
-    requires { list_all has_few_reps fields.now ≡ true }
-    ensures { result ≡ fits_field (slice_get fields.now place) conj generation labels.now }
-{
-    match fields.get(place as usize) {
-        Some(field) => fits(field, conj, generation, labels),
-        None => false,
-    }
-}
-
-/// Whether there is a table at this place, and a label for each of its slots.
-fn fits_table(tables: &[Table], place: u32, labels: &[u32]) -> bool
-    ensures { result ≡ fits_table (slice_get tables.now place) labels.now }
-{
-    match tables.get(place as usize) {
-        Some(table) => labels.len() == table.slots.len(),
-        None => false,
-    }
-}
-
-/// Whether a factor fits the model.
-#[tactic(auto, using(crate::proofs::FactorLaws::few_reps_fermions, crate::proofs::FactorLaws::few_reps_scalars))]
-fn is_factor(model: &Model, factor: &Factor) -> bool
-    requires { has_valid_parts model.now ≡ true }
-    ensures { result ≡ is_factor model.now factor.now }
-{
-    match factor {
-        Factor::Fermion {
-            field,
-            generation,
-            labels,
-        } => fits_field(
-            model.fermions.as_slice(),
-            *field,
-            false,
-            *generation,
-            labels.as_slice(),
-        ),
-        Factor::Scalar {
-            field,
-            conj,
-            generation,
-            labels,
-        } => fits_field(
-            model.scalars.as_slice(),
-            *field,
-            *conj,
-            *generation,
-            labels.as_slice(),
-        ),
-        Factor::Eps { labels } => is_between(2, 6, labels.len()),
-        Factor::Table { table, labels } => {
-            fits_table(model.tables.as_slice(), *table, labels.as_slice())
-        }
-    }
-}
-
-/// Whether each factor fits the model.
-fn are_all_factors(model: &Model, factors: &[Factor]) -> bool
-    requires { has_valid_parts model.now ≡ true }
-    ensures { result ≡ list_all (is_factor model.now) factors.now }
-{
-    factors.iter().all(|factor| is_factor(model, factor))
-}
-
-/// Whether a factor is an `eps` or a table.
-fn is_tensor(factor: &Factor) -> bool
-    ensures { result ≡ is_tensor factor.now }
-{
-    matches!(factor, Factor::Eps { .. } | Factor::Table { .. })
-}
-
-/// How many `eps` and tables are among the factors.
-fn tensor_count(factors: &[Factor]) -> usize
-    ensures { result ≡ count_by is_tensor factors.now }
-{
-    factors.iter().filter(|factor| is_tensor(*factor)).count()
-}
-
-/// Whether a monomial may have these factors: fields that the model has, in generations that it has, conjugate only
-/// where they are complex scalars, and tables that it has, each with a label for each slot; and `eps` with 2 to 6
-/// labels; but at most 4 `eps` and tables. The model meets its rules, its terms and names apart. It takes no memory.
-pub fn are_factors(model: &Model, factors: &[Factor]) -> bool
-    requires { has_valid_parts model.now ≡ true }
-    ensures { result ≡ are_factors model.now factors.now }
-{
-    are_all_factors(model, factors) && tensor_count(factors) <= 4
-}
-
-/// Whether a label joins two slots of one group, of which a field has one.
-fn is_joined(factors: &[Factor], slots: &[LabelledSlot], label: u32) -> bool
-    ensures { result ≡ is_joined factors.now slots.now label }
-{
-    joins_two(factors, label) && joins_one_group(slots, label)
-}
-
-/// Whether each of some labels joins two slots of one group, of which a field has one.
-fn are_labels_joined(factors: &[Factor], slots: &[LabelledSlot], labels: &[u32]) -> bool
-    ensures { result ≡ list_all (is_joined factors.now slots.now) labels.now }
-{
-    labels.iter().all(|label| is_joined(factors, slots, *label))
-}
-
-/// Whether each label of some of the factors joins two slots of one group, of which a field has one.
-fn are_all_joined(factors: &[Factor], slots: &[LabelledSlot], some: &[Factor]) -> bool
-    ensures { result ≡ list_all (is_joined factors.now slots.now) (all_labels some.now) }
-{
-    match some {
-        [] => true,
-        [factor, some @ ..] => {
-            are_labels_joined(factors, slots, labels_of(factor))
-                && are_all_joined(factors, slots, some)
-        }
-    }
-}
-
-/// Whether each `eps` has labels of one group SU(n), with n equal to their number.
-fn does_each_eps_fit(groups: &[Group], slots: &[LabelledSlot], factors: &[Factor]) -> bool
-    ensures { result ≡ list_all (eps_fits groups.now slots.now) factors.now }
-{
-    factors.iter().all(|factor| eps_fits(groups, slots, factor))
-}
-
-/// Whether the labels of a monomial's factors are joined: each joins two slots of one group, of which a field has one,
-/// and those of an `eps` are of one group SU(n), with n equal to their number. The model meets its rules, its terms and
-/// names apart. Only want of memory is an error.
-pub fn are_joined(alloc: Global, model: &Model, factors: &[Factor]) -> Result<bool, AllocError>
-    requires { has_valid_parts model.now ≡ true }
-    ensures { IfOk result (λ joined. joined ≡ are_joined model.now factors.now) }
-{
-    let slots = labelled_slots(alloc, model, factors)?;
-    if !are_all_joined(factors, slots.as_slice(), factors) {
-        return Ok(false);
-    }
-    Ok(does_each_eps_fit(model.groups.as_slice(), slots.as_slice(), factors))
 }

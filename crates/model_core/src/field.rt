@@ -1,4 +1,8 @@
 //! Fields.
+ghost use Rattle.std.specs.Prelude.{◌≡◌};
+ghost use Rattle.std.specs.List.{list_all};
+ghost use Rattle.model_core.specs.Valid.{is_real_rep, is_own_conjugate};
+
 use crate::name::Name;
 use frac128::{Frac, ItemList};
 use su_reps::Rep;
@@ -22,3 +26,22 @@ pub struct Field {
 
 /// Fields in file order.
 pub type FieldList = ItemList<Field>;
+
+/// Whether each representation is the singlet or the adjoint.
+fn are_real(reps: &[Rep]) -> bool
+    ensures { result ≡ list_all is_real_rep reps.now }
+{
+    reps.iter()
+        .all(|rep| matches!(rep, Rep::Singlet | Rep::Adjoint))
+}
+
+/// Whether a field is its own conjugate, as a real scalar has to be: without a charge, and a singlet or in the adjoint
+/// representation of each group.
+pub fn is_own_conjugate(field: &Field) -> bool
+    ensures { result ≡ is_own_conjugate field.now }
+{
+    if !are_real(field.reps.as_slice()) {
+        return false;
+    }
+    field.charge == Frac::zero()
+}

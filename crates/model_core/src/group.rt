@@ -1,6 +1,6 @@
 //! Gauge groups.
 ghost use Rattle.std.specs.Prelude.{◌≡◌};
-ghost use Rattle.model_core.specs.Groups.{is_abelian};
+ghost use Rattle.model_core.specs.Groups.{is_abelian, slot_size};
 
 use crate::name::{Latex, Name};
 use frac128::ItemList;
@@ -28,3 +28,13 @@ impl Group {
 
 /// Groups in file order.
 pub type GroupList = ItemList<Group>;
+
+/// The n of the group at a place: 0 where there is none.
+pub fn slot_size(groups: &[Group], slot: u32) -> u32
+    ensures { result ≡ slot_size groups.now slot }
+{
+    match groups.get(slot as usize) {
+        Some(group) => group.n,
+        None => 0,
+    }
+}

@@ -1,4 +1,9 @@
 //! Tables: tensors of fractions.
+ghost use Rattle.std.specs.Prelude.{◌≡◌, map};
+ghost use Rattle.std.specs.List.{list_any};
+ghost use Rattle.std.specs.Str.{bytes_eq};
+ghost use Rattle.model_core.specs.Valid.{entry_at};
+
 use crate::name::Name;
 use frac128::{Frac, ItemList, NumberList};
 
@@ -24,3 +29,18 @@ pub struct Table {
 
 /// Tables in file order.
 pub type TableList = ItemList<Table>;
+
+/// Whether one of the entries stands at these values.
+fn is_any_at(entries: &[Entry], at: &[u32]) -> bool
+    ensures { result ≡ list_any (λ entry. bytes_eq at.now (entry_at entry)) entries.now }
+{
+    entries.iter().any(|entry| at == entry.at.as_slice())
+}
+
+/// Whether one of the entries stands at these values.
+#[tactic(auto, using(crate::proofs::ListLaws::list_any_map))]
+pub fn has_entry_at(entries: &[Entry], at: &[u32]) -> bool
+    ensures { result ≡ list_any (bytes_eq at.now) (map entry_at entries.now) }
+{
+    is_any_at(entries, at)
+}

@@ -16,9 +16,8 @@ use Rattle.model_core.specs.declared.component_lists.FieldComponent.{FieldCompon
 use Rattle.model_core.specs.Component.{Component, slot_sizes, tuples, copies_of, components_of, fermion_components}
 use Rattle.model_core.specs.Scalar.{coordinates_of, scalar_components}
 use Rattle.model_core.specs.ComponentLists.{placed, fermions_from, scalars_from, fermion_list, scalar_list}
-use Rattle.model_core.specs.Valid.{is_field, are_reps, are_distinct, field_name, group_names, table_name, term_name, names_of, has_valid_parts, has_few_components, has_valid_names, IsValid}
-use Rattle.model_core.specs.TermRules.{are_terms}
-use Rattle.model_core.proofs.ValidLaws.{both, field_reps, valid_parts, valid_count, valid_scalar_count, parts_groups, parts_fields, parts_scalar_fields, groups_pass}
+use Rattle.model_core.specs.Valid.{is_field, are_reps, are_distinct, field_name, group_names, table_name, term_name, names_of, has_valid_parts, has_few_components, IsValid}
+use Rattle.model_core.proofs.ValidLaws.{both, field_reps, valid_names, valid_parts, valid_count, valid_scalar_count, parts_groups, parts_fields, parts_scalar_fields, groups_pass}
 use Rattle.model_core.proofs.CountLaws.{passes_at}
 use Rattle.model_core.proofs.ScalarLaws.{real_coordinates, complex_coordinates}
 use Rattle.term_expand.specs.LinkSteps.{component_in, component_at, in_field, AreTuples, IsPlaced, AreNamed, ArePlaced}
@@ -277,9 +276,8 @@ same_slots groups fields x y first second named in_first in_second is_first is_s
 
 -- ---- valid models
 
-valid_names : (model : Model) → IsValid model → are_distinct (names_of model) ≡ true
-valid_names model valid =
-    (both (has_valid_parts model && has_few_components model) (are_distinct (names_of model)) (both (has_valid_names model) (are_terms model model.terms) valid).0).1
+names_differ : (model : Model) → IsValid model → are_distinct (names_of model) ≡ true
+names_differ model valid = (both (has_valid_parts model && has_few_components model) (are_distinct (names_of model)) (valid_names model valid)).1
 
 -- the names of groups and fermions, and those with the scalars
 abbrev names_to_fermions : Model → List (List ℕ)
@@ -291,7 +289,7 @@ names_to_scalars model = names_to_fermions model ++ map field_name model.scalars
 distinct_to_scalars : (model : Model) → IsValid model → are_distinct (names_to_scalars model) ≡ true
 distinct_to_scalars model valid =
     let tables = map table_name model.tables in
-    distinct_left (names_to_scalars model) tables (distinct_left (names_to_scalars model ++ tables) (map term_name model.terms) (valid_names model valid))
+    distinct_left (names_to_scalars model) tables (distinct_left (names_to_scalars model ++ tables) (map term_name model.terms) (names_differ model valid))
 
 reps_of_fields : (groups : List Group) (fields : List Field) → list_all (is_field groups) fields ≡ true → All (λ field. are_reps groups field.reps ≡ true) fields
 reps_of_fields groups fields valid i d l = field_reps groups (get_or fields i d) (passes_at (is_field groups) fields i d valid l)

@@ -3,7 +3,7 @@ use Rattle.std.specs.Prelude.{sum_by}
 use Rattle.std.specs.List.{list_all}
 use Rattle.model_core.specs.Content.{symbol_count}
 use Rattle.model_core.specs.TermRules.{has_small_sizes}
-use Rattle.model_core.proofs.term_rules.symbols_of.Given as goal
+use Rattle.model_core.proofs.block.symbols_of.Given as goal
 
 -- the symbols so far, and those of the terms that are left
 abbrev pub invariant-loop-term : goal.invariant-loop-term
