@@ -14,8 +14,11 @@ pub mod Enumerated
 pub mod FewDirections
 pub mod FirstFaults
 pub mod FoundLines
+pub mod FreeBlocks
 pub mod NameOrder
 pub mod NameSizes
+pub mod OneAnswer
+pub mod OneTold
 pub mod OwnDirections
 pub mod SecondLines
 pub mod Solvers

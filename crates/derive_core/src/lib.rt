@@ -10,6 +10,7 @@ mod coupling_lines;
 mod dependence;
 mod fault;
 mod gauge_lines;
+mod laws;
 mod lines;
 mod outcomes;
 mod pipeline;
@@ -18,4 +19,5 @@ mod targets;
 
 pub use betas::{Betas, Checked, Line, LineList, Target, TargetList, TokenNames};
 pub use fault::DeriveFault;
+pub use laws::{a_file_has_one_check, a_file_has_one_derivation};
 pub use pipeline::{check, derive};

@@ -6,3 +6,4 @@ pub mod ReplyLaws
 pub mod WordCounts
 pub mod RegisterLaws
 pub mod HistoryLaws
+pub mod OneAnswer

@@ -7,3 +7,4 @@ pub mod Reply
 pub mod Run
 pub mod Steps
 pub mod History
+pub mod Laws

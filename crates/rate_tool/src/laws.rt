@@ -1,7 +1,8 @@
-//! What holds of calls one after another.
+//! What holds of calls: of one command twice, and of calls one after another.
 ghost use Rattle.std.specs.Prelude.{List};
 ghost use Rattle.register_core.specs.Register.{Register, opening};
 ghost use Rattle.rate_tool.specs.History.{Given, IsHistory, Lead};
+ghost use Rattle.rate_tool.specs.Laws.{CommandHasOneReply, WordsHaveOneStatus};
 
 /// Where calls lead from the register that has no name to another, each ending as it is due, the
 /// calls that were answered lead there by their answers alone. There the versions of a name differ
@@ -9,4 +10,12 @@ ghost use Rattle.rate_tool.specs.History.{Given, IsHistory, Lead};
 #[tactic(auto, using(crate::proofs::HistoryLaws::history))]
 pub fn the_history_of_a_register()
     ensures { (calls : List Given) (last : Register) → Lead calls opening last → IsHistory opening calls last }
+{}
+
+/// A command has one answer over the same bytes and register, whatever its number of workers: the same
+/// text or refusal, and the same register that is left. Only two fractions that are refused are left
+/// open, and beside the definition want of memory and faults of the streams and of the keeper.
+pub fn a_command_has_one_answer()
+    ensures reply { CommandHasOneReply }
+    ensures status { WordsHaveOneStatus }
 {}

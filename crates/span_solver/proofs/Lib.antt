@@ -5,6 +5,7 @@ pub mod Firsts
 pub mod Gathered
 pub mod Merges
 pub mod Named
+pub mod OpenKeys
 pub mod Opens
 pub mod Scans
 pub mod Steps

@@ -11,3 +11,4 @@ pub mod MergedKeys
 pub mod Scanned
 pub mod BlockDirections
 pub mod ChosenDirections
+pub mod Laws

@@ -18,6 +18,6 @@ mod systems;
 
 pub use block::Block;
 pub use fault::SpanFault;
-pub use laws::coordinates_are_unique;
+pub use laws::{an_open_key_is_unique, coordinates_are_unique};
 pub use names::same_name;
 pub use solved::{PolyList, Solved};
