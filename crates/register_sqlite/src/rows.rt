@@ -118,7 +118,7 @@ fn is_number(row: &Row, number: u32) -> bool
 }
 
 /// The number of versions that rows of one column stand for. They have to be the whole numbers from 1
-/// on, at most 10,000.
+/// on, at most `MOST_VERSIONS`.
 pub(crate) fn count_in(rows: &[Row]) -> Result<u32, Refusal>
     ensures { Reads (count_in rows.now) result }
 {

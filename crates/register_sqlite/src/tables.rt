@@ -11,7 +11,7 @@ use crate::statements::{
 };
 use frac128::ByteList;
 use model_core::{Name, NameList};
-use register_core::RunKey;
+use register_core::{MOST_VERSIONS, RunKey};
 use sqlite::types::ValueRef;
 use sqlite::{Alter, Connection, Error, Row, Transaction};
 use std::alloc::Global;
