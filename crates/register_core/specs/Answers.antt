@@ -34,7 +34,7 @@ IsShown version (Err (Full count)) = ⊥
 IsShown version (Err Keeper) = ⊤
 IsShown version (Err NoMemory) = ⊤
 
--- Of any keeper: a stored version has a number from 1 to 10,000, and a full name has no less.
+-- Of any keeper: a stored version has a number from 1 to the most that a name may have, and a full name has no fewer.
 abbrev pub IsStored : Result ℕ RegisterFault → Type 0
 IsStored (Ok number) = (1 ≤ number) × (number ≤ most_versions)
 IsStored (Err NoSuchName) = ⊥

@@ -14,7 +14,9 @@ mod sure_keeper;
 pub use broken_keeper::BrokenKeeper;
 pub use keeper::{KeepFault, Keeper, RunKey};
 pub use memory_keeper::MemoryKeeper;
-pub use register::{NameCount, NameCountList, RunState, keep_run, list, run_kept, show, store};
+pub use register::{
+    MOST_VERSIONS, NameCount, NameCountList, RunState, keep_run, list, run_kept, show, store,
+};
 pub use register_fault::RegisterFault;
 pub use sure_keeper::SureKeeper;
 

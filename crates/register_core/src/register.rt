@@ -12,7 +12,7 @@ use model_core::Name;
 use std::alloc::Global;
 
 /// The most versions that a name may have.
-const MOST_VERSIONS: u32 = 10_000;
+pub const MOST_VERSIONS: u32 = 10_000;
 
 /// A name and its number of versions.
 #[derive(Drop)]
@@ -34,11 +34,11 @@ pub enum RunState {
 }
 
 /// Stores bytes under a name, and answers their version: the first that has these bytes, or a new
-/// one behind the last. `Full` comes exactly where the name has 10,000 versions and none has these
-/// bytes.
+/// one behind the last. Where the keeper tells its tables, `Full` comes exactly where the name has
+/// `MOST_VERSIONS` versions and none has these bytes, but for a fault and want of memory.
 ///
 /// A keeper that tells no tables may have lost a version, which is passed over, and may count more
-/// than 10,000, of which the first 10,000 are looked at.
+/// than `MOST_VERSIONS`, of which so many are looked at.
 pub fn store<K: Keeper>(
     alloc: Global,
     keeper: &mut K,

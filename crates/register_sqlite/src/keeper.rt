@@ -12,10 +12,11 @@ use register_core::{KeepFault, Keeper, RunKey};
 use sqlite::{Alter, Connection};
 use std::alloc::Global;
 
-/// A keeper of the register in an SQLite database. It tells no tables yet.
+/// A keeper of the register in an SQLite database. It tells no tables, so no clause says what a
+/// call answers. `Failed` raises the count of faults, and every other answer leaves it.
 ///
-/// A call fails where the connection refuses a statement for another cause than memory, and where a
-/// row isn't of the form that the register gives it. Each such call raises the count of faults.
+/// The code fails where the connection refuses a statement for another cause than memory, and where
+/// a row isn't of the form that the register gives it.
 #[derive(Drop)]
 pub struct SqliteKeeper<D: Alter> {
     connection: Connection<D>,
@@ -49,11 +50,11 @@ fn fault_of(refusal: Refusal) -> KeepFault
 }
 
 impl<D: Alter + Drop> SqliteKeeper<D> {
-    /// The keeper over a connection, with no fault counted. Of the tables `model` and `run` it makes
-    /// each whose name no table or view has.
+    /// The keeper over a connection, with no fault counted. Where a transaction is open the answer is
+    /// `Failed` with the connection as it was.
     ///
-    /// An error hands the connection back, with its tables as they were. `NoMemory` comes where memory
-    /// ran out, and `Failed` where a transaction is open or a statement was refused for another cause.
+    /// The code makes each of the tables `model` and `run` whose name no table or view has. Where a
+    /// statement is refused it hands the connection back. No clause says what is in the tables then.
     pub fn new(mut connection: Connection<D>) -> Result<SqliteKeeper<D>, (KeepFault, Connection<D>)>
         ensures fresh { IfOk result (λ keeper. keeper.count ≡ 0) }
         ensures open { connection.in_transaction ≡ true → result ≡ Err (Failed, connection) }

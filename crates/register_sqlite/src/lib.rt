@@ -2,7 +2,8 @@
 //!
 //! The database has a table `model`, with a row for each version of a name, and a table `run`, with
 //! a row for each kept output. Other tables may stand beside them. Each call of the keeper is one
-//! statement, or one transaction, so a call that is refused leaves the database as it was.
+//! statement, or one transaction. What the statements find and change is shown by tests alone: the
+//! keeper tells no tables, so its clauses say only which failures are counted.
 #![tactic(auto)]
 
 mod keeper;

@@ -10,13 +10,10 @@ ghost use Rattle.register_sqlite.specs.Rows.{format_word, name_values, version_v
 use crate::refusal::Refusal;
 use frac128::ByteList;
 use model_core::{Format, Name, NameList};
-use register_core::RunKey;
+use register_core::{MOST_VERSIONS, RunKey};
 use sqlite::Row;
 use sqlite::types::ValueRef;
 use std::alloc::Global;
-
-/// The most versions that a name may have.
-const MOST_VERSIONS: usize = 10_000;
 
 /// The word of a format.
 fn format_word(format: Format) -> &'static [u8]
@@ -121,11 +118,11 @@ fn is_number(row: &Row, number: u32) -> bool
 }
 
 /// The number of versions that rows of one column stand for. They have to be the whole numbers from 1
-/// on, at most 10,000.
+/// on, at most `MOST_VERSIONS`.
 pub(crate) fn count_in(rows: &[Row]) -> Result<u32, Refusal>
     ensures { Reads (count_in rows.now) result }
 {
-    if rows.len() > MOST_VERSIONS {
+    if rows.len() > MOST_VERSIONS as usize {
         return Err(Refusal::Failed);
     }
     let mut count = 0;

@@ -11,7 +11,7 @@ use crate::statements::{
 };
 use frac128::ByteList;
 use model_core::{Name, NameList};
-use register_core::RunKey;
+use register_core::{MOST_VERSIONS, RunKey};
 use sqlite::types::ValueRef;
 use sqlite::{Alter, Connection, Error, Row, Transaction};
 use std::alloc::Global;
@@ -85,7 +85,7 @@ fn next_version<D: Alter>(change: &mut Transaction<'_, D>, name: &Name) -> Resul
 {
     let rows = change.query_all(VERSIONS, &name_values(name))?;
     let count = count_in(rows.as_slice())?;
-    if count == 10_000 {
+    if count == MOST_VERSIONS {
         return Err(Refusal::Failed);
     }
     let runs = change.query_all(LOOPS, &version_values(name, count + 1))?;
