@@ -17,6 +17,3 @@ pub use memory_keeper::MemoryKeeper;
 pub use register::{NameCount, NameCountList, RunState, keep_run, list, run_kept, show, store};
 pub use register_fault::RegisterFault;
 pub use sure_keeper::SureKeeper;
-
-#[cfg(test)]
-mod tests;

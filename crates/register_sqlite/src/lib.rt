@@ -12,6 +12,3 @@ mod statements;
 mod tables;
 
 pub use keeper::SqliteKeeper;
-
-#[cfg(test)]
-mod tests;
