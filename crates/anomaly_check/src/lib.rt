@@ -8,6 +8,3 @@ mod counts;
 
 pub use anomaly::{Anomaly, AnomalyError, AnomalyKind};
 pub use check::check_anomalies;
-
-#[cfg(test)]
-mod tests;

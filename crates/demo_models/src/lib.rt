@@ -2,7 +2,5 @@
 #![tactic(auto)]
 
 mod standard_model;
-#[cfg(test)]
-mod tests;
 
 pub use standard_model::{demo, generations};

@@ -16,6 +16,3 @@ pub use component::{Component, component_at};
 pub use fault::{CheckError, TermFault};
 pub use links::generator_links;
 pub use parts::push_entries;
-
-#[cfg(test)]
-mod tests;

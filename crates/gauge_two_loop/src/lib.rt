@@ -4,12 +4,8 @@
 mod abelian;
 mod casimirs;
 mod gauge;
-#[cfg(test)]
-mod gauge_tests;
 mod pieces;
 mod two_loop;
-#[cfg(test)]
-mod two_loop_tests;
 mod yukawa;
 
 pub use casimirs::casimir_of;

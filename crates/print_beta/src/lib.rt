@@ -12,6 +12,3 @@ mod text_lines;
 
 pub use forms::print;
 pub use line_text::{LineText, push_component, push_fraction, push_number, short_line};
-
-#[cfg(test)]
-mod tests;

@@ -5,14 +5,10 @@ ghost use Rattle.std.specs.Prelude.{◌≡◌, ◌⊎◌, map, string_bytes, IfO
 ghost use Rattle.std.specs.Vec.Iter.{into_iter_items};
 ghost use Rattle.rate_tool.specs.Words.{texts};
 
-#[cfg(test)]
-mod expand_tests;
 mod fault_lines;
 mod laws;
 mod lines;
 mod reading;
-#[cfg(test)]
-mod register_tests;
 mod reply;
 mod room;
 mod run;

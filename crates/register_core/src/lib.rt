@@ -19,6 +19,3 @@ pub use register::{
 };
 pub use register_fault::RegisterFault;
 pub use sure_keeper::SureKeeper;
-
-#[cfg(test)]
-mod tests;

@@ -13,6 +13,3 @@ mod statements;
 mod tables;
 
 pub use keeper::SqliteKeeper;
-
-#[cfg(test)]
-mod tests;

@@ -6,8 +6,6 @@ mod gauges;
 mod lines;
 mod matrices;
 mod parts;
-#[cfg(test)]
-mod product_tests;
 mod products;
 mod stacks;
 
