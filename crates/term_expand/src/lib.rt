@@ -20,4 +20,4 @@ pub use expansion::{Tensors, expand};
 pub use links::push_link;
 pub use multiples::conjugate;
 pub use texts::no_symbols;
-pub use token::{BlockName, Token};
+pub use token::{BlockName, Token, block_name};
