@@ -1,9 +1,12 @@
 pub mod Directions
 pub mod Documents
 pub mod FewLabels
+pub mod FileRules
 pub mod Firsts
 pub mod FlavourLaws
+pub mod KeyValues
 pub mod LabelLaws
+pub mod LabelNumbers
 pub mod Literals
 pub mod Mapped
 pub mod Members
@@ -11,6 +14,7 @@ pub mod NameLaws
 pub mod Readings
 pub mod ScalarPlaces
 pub mod SlotLaws
+pub mod SmallFractions
 pub mod Spellings
 pub mod TableLaws
 pub mod TermLaws

@@ -5,7 +5,7 @@ ghost use Rattle.toml.specs.Data.{get_member};
 ghost use Rattle.toml.specs.View.{view, table_view};
 ghost use Rattle.model_core.specs.Component.{components_of};
 ghost use Rattle.model_core.specs.Scalar.{coordinates_of};
-ghost use Rattle.model_core.specs.Valid.{IsValid, has_valid_parts, has_few_components, are_groups, are_fields, are_scalars, are_tables, are_distinct, field_name};
+ghost use Rattle.model_core.specs.Valid.{IsValid, has_valid_names, has_valid_parts, has_few_components, are_groups, are_fields, are_scalars, are_tables, are_distinct, field_name};
 ghost use Rattle.model_core.specs.Document.{number_of, text_of, tables_at, group_of, fermion_of, scalar_of};
 ghost use Rattle.model_core.specs.TermRules.{are_terms};
 ghost use Rattle.model_core.specs.Fault.{key_place};
@@ -199,7 +199,7 @@ fn model_with(
 ) -> Result<Model, ReadError>
     requires { ArePartsFew parts.now }
     ensures walked { Walked (λ model. model) (whole_places profile name (part_lists parts.now)) (whole_model profile name (part_lists parts.now)) result }
-    ensures valid { IfOk result (λ model. IsValid model) }
+    ensures valid { IfOk result (λ model. has_valid_names model ≡ true) }
     ensures terms { IfOk result (λ model. are_terms model model.terms ≡ true) }
 {
     let mut names = Names::new(alloc);
@@ -213,7 +213,8 @@ fn model_with(
 #[tactic(auto, using(crate::proofs::Firsts::first_before), unfolding(model_core::specs::Walk::bad_places, model_core::specs::Document::parts_of, model_core::specs::Reading::model_of))]
 fn model_of(alloc: Global, file: &Table) -> Result<Model, ReadError>
     ensures walked { Walked (λ model. model) (bad_places (table_view file.now)) (model_of (table_view file.now)) result }
-    ensures valid { IfOk result (λ model. IsValid model) }
+    ensures valid { IfOk result (λ model. has_valid_names model ≡ true) }
+    ensures terms { IfOk result (λ model. are_terms model model.terms ≡ true) }
 {
     let place = FaultPlace::new(Part::File, 0);
     let values = file_values(place, file)?;
@@ -221,6 +222,16 @@ fn model_of(alloc: Global, file: &Table) -> Result<Model, ReadError>
     let name = name(place.key(2), values.name)?;
     let parts = part_tables(alloc, place, file)?;
     model_with(alloc, profile, name, &parts)
+}
+
+/// The model that a document names, which is valid.
+#[tactic(auto, using(crate::proofs::FileRules::values_read))]
+fn valid_model(alloc: Global, file: &Table) -> Result<Model, ReadError>
+    ensures walked { Walked (λ model. model) (bad_places (table_view file.now)) (model_of (table_view file.now)) result }
+    ensures valid { IfOk result (λ model. IsValid model) }
+{
+    let model = model_of(alloc, file)?;
+    Ok(model)
 }
 
 /// The model that the bytes of a file stand for, which is valid.
@@ -233,5 +244,5 @@ pub fn read_model(alloc: Global, bytes: &[u8]) -> Result<Model, ReadError>
     ensures valid { IfOk result (λ model. IsValid model) }
 {
     let file = document(alloc, bytes)?;
-    model_of(alloc, &file)
+    valid_model(alloc, &file)
 }
