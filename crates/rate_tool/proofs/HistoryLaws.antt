@@ -1,6 +1,7 @@
 -- What calls one after another lead to.
 use Rattle.std.proofs.Common.{◌≡◌, ◌≢◌, ◌⊎◌, ℕ, ◌<◌, ◌≤◌, ◌+◌, Bool, true, false, if◌then◌else◌, nat_lt, List, [], ◌∷◌, ◌++◌, length, length-append, slice_get, Option, None, Some, Result, Ok, Err, refl, sym, ap, subst, subst₂, ◌∙◌, arith, inl, inr}
 use Rattle.std.proofs.lemmas.Bool.Decides.{nat_tests}
+use Rattle.std.proofs.lemmas.Bool.{false≢true}
 use Rattle.model_core.specs.declared.fault.ReadFault.{ReadFault}
 use Rattle.model_core.specs.declared.model.Model.{Model}
 use Rattle.model_core.specs.Reading.{reading}
@@ -12,15 +13,15 @@ use Rattle.register_core.specs.declared.register.RunState.{RunState}
 use Rattle.register_core.specs.declared.register.RunState.TheVariants.{Kept, Fresh}
 use Rattle.register_core.specs.declared.register_fault.RegisterFault.{RegisterFault}
 use Rattle.register_core.specs.declared.register_fault.RegisterFault.TheVariants as denial
-use Rattle.rate_tool.specs.Words.{command_of}
 use Rattle.rate_tool.specs.Reply.{limit, denial_of, IsPrinting, IsAcceptance, IsReplyToSource, IsRunReply, IsReply, stored, store_file, store_bytes, shown}
-use Rattle.rate_tool.specs.Run.{IsStatusFor, IsDue, status_of}
-use Rattle.rate_tool.specs.History.{Given, Lead, answers, answered, IsStep, Step, IsOutput, IsLawful, IsHistory}
+use Rattle.rate_tool.specs.Words.{command_of}
+use Rattle.rate_tool.specs.Run.{IsStatusFor, IsDueOrFault, Wrote, status_of}
+use Rattle.rate_tool.specs.History.{Given, IsCall, Lead, answers, answered, IsStep, Step, IsOutput, IsLawful, IsHistory}
 use Rattle.rate_tool.specs.declared.words.Command.{Command}
 use Rattle.rate_tool.specs.declared.words.Command.TheVariants.{Derive, Check, Store, Show, Listing, Run, Demo}
 use Rattle.rate_tool.specs.declared.status.Status.{Status}
 use Rattle.rate_tool.specs.declared.status.Status.TheVariants as status
-use Rattle.rate_tool.proofs.RegisterLaws.{AllDiffer, differ_pushed, versions_after, version_kept, kept_new, with_run_new, run_after, no_versions, no_runs}
+use Rattle.rate_tool.proofs.RegisterLaws.{AllDiffer, differ_pushed, versions_after, version_kept, kept_new, with_run_new, run_after, no_versions, no_runs, filled_with, none_filled}
 
 abbrev Reply : Type 0
 Reply = Result (List ℕ) Status
@@ -30,6 +31,7 @@ Reply = Result (List ℕ) Status
 -- the register that has no name is lawful
 pub opening_lawful : IsLawful opening
 opening_lawful = record {
+  filled = none_filled;
   differ = λ name i j a b before at_i at_j same. nothing_at name i a at_i;
   short = λ name. omega (arith, ap length (no_versions name));
   outputs = λ key output there. absurd (no_output output (sym (no_runs key) ∙ there));
@@ -50,6 +52,7 @@ record AddsVersion (register : Register) (name bytes : List ℕ) (next : Registe
 module _ (register : Register) (lawful : IsLawful register) where
   version_lawful : (name bytes : List ℕ) → number_of bytes (versions_of register name) ≡ None → count_of register name < most_versions → IsLawful (with_version register name bytes)
   version_lawful name bytes none room = record {
+    filled = filled_with register name bytes lawful.filled;
     differ = λ other. elim (versions_after register name bytes other) [
       | inl more ↦ subst AllDiffer (sym more.1) (differ_pushed (versions_of register other) bytes (lawful.differ other) (ap (λ n. number_of bytes (versions_of register n)) more.0 ∙ none))
       | inr same ↦ subst AllDiffer (sym same) (lawful.differ other)
@@ -71,6 +74,7 @@ module _ (register : Register) (lawful : IsLawful register) where
   -- an output that is printed of its version may be kept
   run_lawful : (key : Key) (output : List ℕ) → run_of register key ≡ None → IsOutput register key output → IsLawful (with_run register key output)
   run_lawful key output none it = subst IsLawful (sym (with_run_new register key output none)) (record {
+    filled = lawful.filled;
     differ = lawful.differ;
     short = lawful.short;
     outputs = λ other found there. elim (run_after register key output other found there) [
@@ -117,31 +121,9 @@ module _ (register : Register) (name bytes : List ℕ) where
   left_by : (reply : Reply) (next : Register) → (reply, next) ≡ store_bytes register name bytes → IsLeft register name bytes (reply, next)
   left_by reply next is = subst (IsLeft register name bytes) (sym is) (left_bytes (nat_lt limit (length bytes)))
 
--- ---- refused calls leave the register, and their refusal is no answer
-
-shown_no_answer : (found : Result (List ℕ) RegisterFault) → Err status.Done ≡ shown found → ⊥
-shown_no_answer (Ok text) is = cc
-shown_no_answer (Err bad) is = let same : denial_of bad ≡ status.Done = cc in denial_no_answer bad same
-
-source_no_answer : (Answers : List ℕ → Result (List ℕ) DeriveFault → Type 0) (bytes : List ℕ) → IsReplyToSource Answers bytes (Err status.Done) → ⊥
-source_no_answer Answers bytes (inl long) = let same : Err status.Done ≡ Err status.TooLong = long.1 in cc
-source_no_answer Answers bytes (inr short) = short.1
-
-run_no_answer : (register next : Register) (key : Key) (state : Result RunState RegisterFault) → IsRunReply register key state (Err status.Done) next → ⊥
-run_no_answer register next key (Ok (Kept output)) is = let same : Err status.Done ≡ Ok output = is.0 in cc
-run_no_answer register next key (Ok (Fresh file)) is = is.0
-run_no_answer register next key (Err bad) is = let same : denial_of bad ≡ status.Done = cc in denial_no_answer bad same
+-- ---- refused calls leave the register
 
 module _ (register next : Register) (bytes : List ℕ) where
-  no_answer : (command : Command) → IsReply command register bytes (Err status.Done) next → ⊥
-  no_answer (Derive loops format workers) is = source_no_answer (IsPrinting loops format) bytes is.0
-  no_answer Check is = source_no_answer IsAcceptance bytes is.0
-  no_answer (Store name) is = (left_by register name bytes (Err status.Done) next is).1 refl
-  no_answer (Show name version) is = shown_no_answer (machine.show register name version) is.0
-  no_answer Listing is = let same = is.0 in cc
-  no_answer (Run key workers) is = run_no_answer register next key (machine.run register key) is
-  no_answer (Demo seed) is = is.0
-
   run_refused : (key : Key) (state : Result RunState RegisterFault) (refusal : Status) → IsRunReply register key state (Err refusal) next → next ≡ register
   run_refused key (Ok (Kept output)) refusal is = is.1
   run_refused key (Ok (Fresh file)) refusal is = is.1
@@ -191,7 +173,7 @@ module _ (register next : Register) (lawful : IsLawful register) where
 steps_lawful : (calls : List Given) (register last : Register) → IsLawful register → Step calls register last → IsLawful last
 steps_lawful [] register last lawful same = subst IsLawful (sym same) lawful
 steps_lawful (given ∷ calls) register last lawful (next, (step, rest)) =
-    steps_lawful calls next last (answer_lawful register next lawful given.bytes step.text step.command step.replies) rest
+    steps_lawful calls next last (answer_lawful register next lawful given.bytes step.text step.answer.command step.answer.replies) rest
 
 -- ---- calls by their answers alone
 
@@ -201,14 +183,6 @@ IsStepIf true given register next = IsStep given register next
 IsStepIf false given register next = next ≡ register
 
 module _ (given : Given) (register next : Register) where
-  by_reply : (command : Command) → command_of given.words ≡ Some command → (reply : Reply) → IsReply command register given.bytes reply next → status.Done ≡ status_of reply → IsStep given register next
-  by_reply command asked (Ok text) replies is = record { command = command; asked = asked; text = text; replies = replies }
-  by_reply command asked (Err refusal) replies is = absurd (no_answer register next given.bytes command (subst (λ s. IsReply command register given.bytes (Err s) next) (sym is) replies))
-
-  answered_step : (asked : Option Command) → command_of given.words ≡ asked → IsStatusFor asked register given.bytes status.Done next → IsStep given register next
-  answered_step None asked is = let same : status.Done ≡ status.Usage = is.0 in let never : ⊥ = cc in absurd never
-  answered_step (Some command) asked is = by_reply command asked is.reply is.replies is.is
-
   left_reply : (due : Status) → due ≢ status.Done → (command : Command) (reply : Reply) → IsReply command register given.bytes reply next → due ≡ status_of reply → next ≡ register
   left_reply due other command (Ok text) replies is = absurd (other is)
   left_reply due other command (Err refusal) replies is = refused_leaves register next given.bytes command refusal replies
@@ -217,20 +191,42 @@ module _ (given : Given) (register next : Register) where
   left_call due other None is = is.1
   left_call due other (Some command) is = left_reply due other command is.reply is.replies is.is
 
-  call_step : (ended : Status) → IsDue given.words register given.bytes ended next → IsStepIf (answers ended) given register next
-  call_step status.Done is = answered_step _ refl is
-  call_step status.NoMemory is = is
-  call_step status.Usage is = left_call status.Usage (λ same. cc) (command_of given.words) is
-  call_step status.ReadFault is = is
-  call_step status.TooLong is = left_call status.TooLong (λ same. cc) (command_of given.words) is
-  call_step (status.Malformed bad) is = left_call (status.Malformed bad) (λ same. cc) (command_of given.words) is
-  call_step (status.BadTerm bad) is = left_call (status.BadTerm bad) (λ same. cc) (command_of given.words) is
-  call_step (status.Anomalous bad) is = left_call (status.Anomalous bad) (λ same. cc) (command_of given.words) is
-  call_step (status.Overflow pair) is = left_call (status.Overflow pair) (λ same. cc) (command_of given.words) is
-  call_step status.NoSuch is = left_call status.NoSuch (λ same. cc) (command_of given.words) is
-  call_step status.Full is = left_call status.Full (λ same. cc) (command_of given.words) is
-  call_step status.KeeperFault is = is
-  call_step status.WriteFault is = answered_step _ refl is
+  -- an unanswered call leaves the register
+  unanswered : (ended : Status) → answers ended ≡ false → IsDueOrFault given.words register given.bytes ended next → next ≡ register
+  unanswered status.Done silent is = absurd (false≢true (sym silent))
+  unanswered status.NoMemory silent is = is
+  unanswered status.Usage silent is = left_call status.Usage (λ same. cc) (command_of given.words) is
+  unanswered status.ReadFault silent is = is.0
+  unanswered status.TooLong silent is = left_call status.TooLong (λ same. cc) (command_of given.words) is
+  unanswered (status.Malformed bad) silent is = left_call (status.Malformed bad) (λ same. cc) (command_of given.words) is
+  unanswered (status.BadTerm bad) silent is = left_call (status.BadTerm bad) (λ same. cc) (command_of given.words) is
+  unanswered (status.Anomalous bad) silent is = left_call (status.Anomalous bad) (λ same. cc) (command_of given.words) is
+  unanswered (status.Overflow pair) silent is = left_call (status.Overflow pair) (λ same. cc) (command_of given.words) is
+  unanswered status.NoSuch silent is = left_call status.NoSuch (λ same. cc) (command_of given.words) is
+  unanswered status.Full silent is = left_call status.Full (λ same. cc) (command_of given.words) is
+  unanswered status.KeeperFault silent is = is.0
+  unanswered status.WriteFault silent is = absurd (false≢true (sym silent))
+
+answered_step : (words : List (List ℕ)) (bytes wrote : List ℕ) (register next : Register) (ended : Status) → answers ended ≡ true
+    → Wrote words register bytes (Some []) (Some wrote) ended next → IsStep (record { words = words; bytes = bytes; ended = ended; wrote = wrote }) register next
+answered_step words bytes wrote register next status.Done loud is = record { text = is.text; answer = is.answer; wrote = is.took }
+answered_step words bytes wrote register next status.WriteFault loud is =
+    record { text = is.text; answer = is.answer; wrote = record { count = is.took.front; is = is.took.took } }
+answered_step words bytes wrote register next status.NoMemory loud is = absurd (false≢true loud)
+answered_step words bytes wrote register next status.Usage loud is = absurd (false≢true loud)
+answered_step words bytes wrote register next status.ReadFault loud is = absurd (false≢true loud)
+answered_step words bytes wrote register next status.TooLong loud is = absurd (false≢true loud)
+answered_step words bytes wrote register next (status.Malformed bad) loud is = absurd (false≢true loud)
+answered_step words bytes wrote register next (status.BadTerm bad) loud is = absurd (false≢true loud)
+answered_step words bytes wrote register next (status.Anomalous bad) loud is = absurd (false≢true loud)
+answered_step words bytes wrote register next (status.Overflow pair) loud is = absurd (false≢true loud)
+answered_step words bytes wrote register next status.NoSuch loud is = absurd (false≢true loud)
+answered_step words bytes wrote register next status.Full loud is = absurd (false≢true loud)
+answered_step words bytes wrote register next status.KeeperFault loud is = absurd (false≢true loud)
+
+call_step : (given : Given) (register next : Register) (b : Bool) → answers given.ended ≡ b → IsCall given register next → IsStepIf b given register next
+call_step given register next true loud is = answered_step given.words given.bytes given.wrote register next given.ended loud is.wrote
+call_step given register next false silent is = unanswered given register next given.ended silent is.due
 
 step_before : (b : Bool) (given : Given) (calls : List Given) (register next last : Register) → IsStepIf b given register next → Step calls next last → Step (if b then given ∷ calls else calls) register last
 step_before true given calls register next last step rest = (next, (step, rest))
@@ -239,7 +235,7 @@ step_before false given calls register next last same rest = subst (λ r. Step c
 lead_steps : (calls : List Given) (register last : Register) → Lead calls register last → Step (answered calls) register last
 lead_steps [] register last same = same
 lead_steps (given ∷ calls) register last (next, (due, rest)) =
-    step_before (answers given.ended) given (answered calls) register next last (call_step given register next given.ended due) (lead_steps calls next last rest)
+    step_before (answers given.ended) given (answered calls) register next last (call_step given register next (answers given.ended) refl due) (lead_steps calls next last rest)
 
 pub history : (calls : List Given) (last : Register) → Lead calls opening last → IsHistory opening calls last
 history calls last lead = let steps = lead_steps calls opening last lead in record { steps = steps; lawful = steps_lawful (answered calls) opening last opening_lawful steps }

@@ -1,5 +1,5 @@
 -- What one version more and one run more change in a register.
-use Rattle.std.proofs.Common.{◌≡◌, ◌≢◌, ◌⊎◌, ℕ, zero, suc, ◌<◌, Bool, true, false, cond, List, [], ◌∷◌, ◌++◌, length, slice_get, bytes_eq, is_some, unwrap_or, option_map, nat_lt, if◌then◌else◌, true≢false, ◌+◌, ◌-◌, Option, None, Some, refl, sym, ap, ◌∙◌, arith, inl, inr, Ordering, Less, Equal, Greater}
+use Rattle.std.proofs.Common.{◌≡◌, ◌≢◌, ◌⊎◌, ℕ, zero, suc, ◌<◌, ◌≤◌, Bool, true, false, cond, List, [], ◌∷◌, ◌++◌, length, length-append, slice_get, bytes_eq, is_some, unwrap_or, option_map, nat_lt, if◌then◌else◌, true≢false, ◌+◌, ◌-◌, Option, None, Some, refl, sym, ap, ◌∙◌, arith, inl, inr, Ordering, Less, Equal, Greater}
 use Rattle.std.specs.Ordering.{nat_cmp, ordering_then, is_eq, eq_by_cmp}
 use Rattle.std.specs.FinMap.{get, insert, get-insert, get-empty, IsAntisymmetric, nat_cmp-IsAntisymmetric, slice_cmp-IsAntisymmetric}
 use Rattle.std.proofs.lemmas.Cmp.{nat_list_cmp_total}
@@ -130,6 +130,25 @@ module _ (register : Register) (name bytes : List ℕ) where
 
   pub version_kept : (other : List ℕ) (version : ℕ) (file : List ℕ) → version_of register other version ≡ Some file → version_of (with_version register name bytes) other version ≡ Some file
   version_kept other version file there = version_by other (version - 1) file (nat_lt 0 version) there
+
+-- ---- names that have a version
+
+abbrev pub AllFilled : Register → Type 0
+AllFilled register = (name : List ℕ) (versions : List (List ℕ)) → get register.models name ≡ Some versions → 1 ≤ length versions
+
+module _ (register : Register) (name bytes : List ℕ) where
+  filled_by : AllFilled register → (other : List ℕ) (versions : List (List ℕ)) (b : Bool)
+      → cond b (Some (versions_of register name ++ bytes ∷ [])) (get register.models other) ≡ Some versions → 1 ≤ length versions
+  filled_by all other versions true there =
+      let is : versions_of register name ++ bytes ∷ [] ≡ versions = cc in omega (arith, ap length is, length-append (versions_of register name) (bytes ∷ []))
+  filled_by all other versions false there = all other versions there
+
+  pub filled_with : AllFilled register → AllFilled (with_version register name bytes)
+  filled_with all other versions there =
+      filled_by all other versions (eq_by_cmp name_cmp other name) (sym (get-insert nat_list_cmp_total register.models name (versions_of register name ++ bytes ∷ []) other) ∙ there)
+
+pub none_filled : AllFilled opening
+none_filled name versions there = let both : None ≡ Some versions = sym (get-empty name_cmp name) ∙ there in let never : ⊥ = cc in absurd never
 
 -- ---- one run more
 

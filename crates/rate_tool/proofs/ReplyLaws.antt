@@ -21,9 +21,9 @@ use Rattle.register_core.specs.declared.register_fault.RegisterFault.{RegisterFa
 use Rattle.register_core.specs.declared.register_fault.RegisterFault.TheVariants as denial
 use Rattle.rate_tool.specs.Lines.{counts_text}
 use Rattle.rate_tool.specs.Reply.{limit, refusal_of, denial_of, IsPrinting, IsAcceptance, IsSummary, IsReplyTo, IsReplyToSource, store_bytes, store_file, stored, keeping, shown, IsRunReply, IsReply}
-use Rattle.rate_tool.specs.Run.{Call, GaveFile, IsCaused, Replies}
+use Rattle.rate_tool.specs.Run.{Call, Counts, GaveFile, IsCaused, Replies, IsFile, ReachesKeeper, Reached}
 use Rattle.rate_tool.specs.Words.{reads_source, asks_keeper}
-use Rattle.rate_tool.specs.Steps.{WasRead, WasTooLong, ReadEnds, AnswerEnds, stopped, RepliesToSource, SourceEnds, MadeEnds, Counts, IsQuiet, KeeperReplies, KeeperEnds, IsFresh, FreshEnds, ReplyEnds}
+use Rattle.rate_tool.specs.Steps.{WasRead, WasTooLong, ReadEnds, AnswerEnds, stopped, RepliesToSource, SourceEnds, MadeEnds, IsQuiet, KeeperReplies, KeeperEnds, IsFresh, FreshEnds, ReplyEnds}
 use Rattle.rate_tool.specs.declared.reading.Stop.{Stop}
 use Rattle.rate_tool.specs.declared.reading.Stop.TheVariants as stop
 use Rattle.rate_tool.specs.declared.words.Command.{Command}
@@ -92,7 +92,7 @@ module _ (told : Type 0) (name : List ℕ) (call : Call) (counts : Counts) where
   pub stopped_store : (why : Stop) → ReadEnds call.left call.left' counts.reads counts.reads' (Err why) → call.register' ≡ call.register → counts.keeps' ≡ counts.keeps
       → ReplyEnds told (Store name) call counts (Err (stopped why))
   stopped_store stop.NoMemory ends same keeps = record { reads = ends; keeps = keeps }
-  stopped_store stop.ReadFault ends same keeps = record { rose = ends; keeps = keeps }
+  stopped_store stop.ReadFault ends same keeps = record { asked = refl; rose = ends; keeps = keeps }
   stopped_store stop.TooLong ends same keeps = (
     record {
       bytes = ends.0.bytes;
@@ -110,7 +110,7 @@ module _ (told : Type 0) (name : List ℕ) (call : Call) (counts : Counts) where
       bytes = file;
       read = λ _. gave_all call.left call.left' file read;
       answers = λ _. ap (λ r. (Err (status.Malformed bad), r)) same ∙ sym (short_store call.register name file read.short ∙ ap (store_file call.register name file) is);
-      caused = is;
+      caused = (read.short, is);
     },
     record { reads = reads; keeps = keeps },
   )
@@ -119,6 +119,9 @@ module _ (told : Type 0) (name : List ℕ) (call : Call) (counts : Counts) where
   store_answers : (file : List ℕ) (model : Model) (r : Result ℕ RegisterFault) → length file ≤ limit → reading file ≡ Ok model
       → (r, call.register') ≡ machine.store call.register name file → stored name (r, call.register') ≡ store_bytes call.register name file
   store_answers file model r short is due = sym (short_store call.register name file short ∙ ap (store_file call.register name file) is ∙ ap (stored name) (sym due))
+
+  file_of : (file : List ℕ) (model : Model) → WasRead call.left call.left' file → reading file ≡ Ok model → IsFile file
+  file_of file model read is = record { short = read.short; model = model; reads = is }
 
   pub refused_store : (file : List ℕ) (model : Model) (bad : RegisterFault) → WasRead call.left call.left' file → counts.reads' ≡ counts.reads → reading file ≡ Ok model
       → (told → Ends call.register (machine.store call.register name file) call.register' (Err bad)) → IsStored (Err bad) → HasReason {T = ℕ} counts.keeps counts.keeps' (Err bad)
@@ -130,22 +133,26 @@ module _ (told : Type 0) (name : List ℕ) (call : Call) (counts : Counts) where
       bytes = file;
       read = λ _. gave_all call.left call.left' file read;
       answers = λ knows. store_answers file model (Err (denial.Full count)) read.short is (ends (knows refl));
-      caused = tt;
+      caused = file_of file model read is;
     },
     record { reads = reads; keeps = reason },
   )
-  refused_store file model denial.Keeper read reads is ends numbers reason = record { reads = reads; rose = reason.1 }
+  refused_store file model denial.Keeper read reads is ends numbers reason = record {
+    reached = record { bytes = file; read = λ _. gave_all call.left call.left' file read; reaches = file_of file model read is };
+    reads = reads;
+    rose = reason.1;
+  }
   refused_store file model denial.NoMemory read reads is ends numbers reason = record { reads = reads; keeps = reason }
 
   pub did_store : (file : List ℕ) (model : Model) (number : ℕ) → WasRead call.left call.left' file → counts.reads' ≡ counts.reads → reading file ≡ Ok model
-      → (told → Ends call.register (machine.store call.register name file) call.register' (Ok number)) → counts.keeps' ≡ counts.keeps
+      → (told → Ends call.register (machine.store call.register name file) call.register' (Ok number)) → IsStored (Ok number) → counts.keeps' ≡ counts.keeps
       → Replies told (Store name) call (stored name (Ok number, call.register')).0 × IsQuiet counts
-  did_store file model number read reads is ends keeps = (
+  did_store file model number read reads is ends numbers keeps = (
     record {
       bytes = file;
       read = λ _. gave_all call.left call.left' file read;
       answers = λ knows. store_answers file model (Ok number) read.short is (ends (knows refl));
-      caused = read.short;
+      caused = record { file = file_of file model read is; number = number; least = numbers.0; most = numbers.1; is = refl };
     },
     record { reads = reads; keeps = keeps },
   )
@@ -188,7 +195,7 @@ module _ (told : Type 0) (register register' : Register) (keeps keeps' : ℕ) wh
   pub did_list : (counted : List NameCount) → (told → Answers (Ok (machine.list register')) (Ok counted)) → (told → register' ≡ register) → keeps' ≡ keeps
       → KeeperEnds told Listing register register' keeps keeps' (Ok (counts_text counted))
   did_list counted due same quiet =
-      (record { answers = λ t. (ap listed (due t) ∙ ap (λ r. Ok (counts_text (machine.list r))) (same t), same t); caused = tt }, quiet)
+      (record { answers = λ t. (ap listed (due t) ∙ ap (λ r. Ok (counts_text (machine.list r))) (same t), same t); caused = record { counts = counted; is = refl } }, quiet)
 
   -- a run whose key was looked up, and that is refused there
   pub refused_run : (key : Key) (workers : ℕ) (bad : RegisterFault) → (told → Answers (machine.run register' key) (Err bad)) → (told → register' ≡ register)
@@ -263,12 +270,22 @@ module _ (told : Type 0) (register register' : Register) (keeps keeps' : ℕ) wh
 
 -- ---- any command
 
+-- a command that asks the keeper and not the source reaches it at once
+reaches_at_once : (command : Command) → reads_source command ≡ false → asks_keeper command ≡ true → ReachesKeeper command []
+reaches_at_once (Derive loops format workers) unread asked = absurd (false≢true asked)
+reaches_at_once Check unread asked = absurd (false≢true asked)
+reaches_at_once (Store name) unread asked = absurd (false≢true (sym unread))
+reaches_at_once (Show name version) unread asked = tt
+reaches_at_once Listing unread asked = tt
+reaches_at_once (Run key workers) unread asked = tt
+reaches_at_once (Demo seed) unread asked = absurd (false≢true asked)
+
 module _ (told : Type 0) (command : Command) (call : Call) (counts : Counts) where
   -- one that only reads the source
   module _ (Answers : FileAnswers)
       (make : (bytes : List ℕ) (answer : Result (List ℕ) Status) → IsReplyToSource Answers bytes answer → IsReply command call.register bytes answer call.register')
       (caused : (bytes : List ℕ) (answer : Result (List ℕ) Status) → IsCaused command bytes answer)
-      (keeps : counts.keeps' ≡ counts.keeps) where
+      (asked : reads_source command ≡ true) (keeps : counts.keeps' ≡ counts.keeps) where
     from_replies : (answer : Result (List ℕ) Status) → RepliesToSource Answers call.left call.left' answer × (counts.reads' ≡ counts.reads) → Replies told command call answer × IsQuiet counts
     from_replies answer ends = (
       record { bytes = ends.0.bytes; read = λ _. ends.0.read; answers = λ _. make ends.0.bytes answer ends.0.answers; caused = caused ends.0.bytes answer },
@@ -286,7 +303,7 @@ module _ (told : Type 0) (command : Command) (call : Call) (counts : Counts) whe
       | inl long ↦ let never : ⊥ = cc in absurd never
       | inr short ↦ short.1
     ]
-    from_source (Err status.ReadFault) ends = record { rose = ends; keeps = keeps }
+    from_source (Err status.ReadFault) ends = record { asked = asked; rose = ends; keeps = keeps }
     from_source (Err status.TooLong) ends = from_replies (Err status.TooLong) ends
     from_source (Err (status.Malformed bad)) ends = from_replies (Err (status.Malformed bad)) ends
     from_source (Err (status.BadTerm bad)) ends = from_replies (Err (status.BadTerm bad)) ends
@@ -349,7 +366,11 @@ module _ (told : Type 0) (command : Command) (call : Call) (counts : Counts) whe
     from_keeper (Err (status.Overflow pair)) ends = of_keeper (Err (status.Overflow pair)) ends
     from_keeper (Err status.NoSuch) ends = of_keeper (Err status.NoSuch) ends
     from_keeper (Err status.Full) ends = of_keeper (Err status.Full) ends
-    from_keeper (Err status.KeeperFault) ends = record { reads = reads; rose = ends }
+    from_keeper (Err status.KeeperFault) ends = record {
+      reached = record { bytes = []; read = λ e. absurd (false≢true (sym unread ∙ e)); reaches = reaches_at_once command unread asked };
+      reads = reads;
+      rose = ends;
+    }
     from_keeper (Err status.WriteFault) ends = ends
 
 -- each command's reply
@@ -359,14 +380,14 @@ pub derive_ends : (told : Type 0) (loops : ℕ) (format : Format) (workers : ℕ
     → ReplyEnds told (Derive loops format workers) call counts given
 derive_ends told loops format workers call counts answer given ends same keeps is =
     subst (λ a. ReplyEnds told (Derive loops format workers) call counts a) (sym is)
-    (from_source told (Derive loops format workers) call counts (IsPrinting loops format) (λ _ _ replies. (replies, same)) (λ _ _. tt) keeps answer ends)
+    (from_source told (Derive loops format workers) call counts (IsPrinting loops format) (λ _ _ replies. (replies, same)) (λ _ _. tt) refl keeps answer ends)
 
 pub check_ends : (told : Type 0) (call : Call) (counts : Counts) (answer given : Result (List ℕ) Status)
     → SourceEnds IsAcceptance call.left call.left' counts.reads counts.reads' answer → call.register' ≡ call.register → counts.keeps' ≡ counts.keeps → given ≡ answer
     → ReplyEnds told Check call counts given
 check_ends told call counts answer given ends same keeps is =
     subst (λ a. ReplyEnds told Check call counts a) (sym is)
-    (from_source told Check call counts IsAcceptance (λ _ _ replies. (replies, same)) (λ _ _. tt) keeps answer ends)
+    (from_source told Check call counts IsAcceptance (λ _ _ replies. (replies, same)) (λ _ _. tt) refl keeps answer ends)
 
 pub demo_ends : (told : Type 0) (seed : ℕ) (call : Call) (counts : Counts) (answer given : Result (List ℕ) Status) → MadeEnds (IsSummary seed) (demo_text seed) answer
     → call.register' ≡ call.register → IsQuiet counts → given ≡ answer → ReplyEnds told (Demo seed) call counts given

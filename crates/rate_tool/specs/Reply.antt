@@ -1,5 +1,5 @@
 -- What a command answers over the source's bytes and a register, and the register that it leaves.
-use Rattle.std.specs.Prelude.{◌≡◌, ◌⊎◌, ℕ, ◌<◌, ◌≤◌, nat_lt, if◌then◌else◌, List, length, Result, Ok, Err}
+use Rattle.std.specs.Prelude.{◌≡◌, ◌⊎◌, ℕ, ◌+◌, ◌<◌, ◌≤◌, nat_lt, if◌then◌else◌, List, length, Result, Ok, Err}
 use Rattle.model_core.specs.declared.fault.ReadFault.{ReadFault}
 use Rattle.model_core.specs.declared.format.Format.{Format}
 use Rattle.model_core.specs.declared.model.Model.{Model}
@@ -26,6 +26,10 @@ use Rattle.rate_tool.specs.declared.status.Status.TheVariants as status
 -- the most bytes that a file may have
 abbrev pub limit : ℕ
 limit = 1048576
+
+-- the most bytes that a source is asked for: one more, which tells that there are too many
+abbrev pub most_asked : ℕ
+most_asked = limit + 1
 
 -- ---- statuses of refusals
 

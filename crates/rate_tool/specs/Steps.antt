@@ -1,5 +1,5 @@
 -- The steps of a run.
-use Rattle.std.specs.Prelude.{◌≡◌, ◌<◌, ⊤, ℕ, ◌≤◌, List, [], ◌++◌, length, Option, Result, Ok, Err, Vec}
+use Rattle.std.specs.Prelude.{◌≡◌, ◌<◌, ⊤, ℕ, ◌≤◌, true, List, [], ◌++◌, length, Option, Result, Ok, Err, Vec}
 use Rattle.std.specs.declared.alloc.Global.{Global}
 use Rattle.derive_core.specs.declared.fault.DeriveFault.{DeriveFault}
 use Rattle.derive_core.specs.declared.fault.DeriveFault.TheVariants as fault
@@ -7,7 +7,8 @@ use Rattle.derive_core.specs.Derivation.{Overflows}
 use Rattle.rate_tool.specs.Stream.{Rose, Gave, IsEmptied, Took, TookFront}
 use Rattle.register_core.specs.Register.{Register, Key}
 use Rattle.rate_tool.specs.Reply.{limit, IsPrinting, IsReplyTo, IsReplyToSource, keeping, IsReply}
-use Rattle.rate_tool.specs.Run.{Call, GaveFile, IsCaused, Replies}
+use Rattle.rate_tool.specs.Run.{Call, Counts, Output, GaveFile, IsCaused, Replies, Reached}
+use Rattle.rate_tool.specs.Words.{reads_source}
 use Rattle.rate_tool.specs.declared.reply.Reply.{Reply}
 use Rattle.rate_tool.specs.declared.reply.Reply.TheVariants as reply
 use Rattle.rate_tool.specs.declared.reading.Stop.{Stop}
@@ -90,25 +91,20 @@ abbrev pub MadeEnds : (List ℕ → Result (List ℕ) DeriveFault → Type 0) �
 MadeEnds Answers file (Err status.NoMemory) = ⊤
 MadeEnds Answers file answer = IsReplyTo Answers file answer
 
--- the counts of faults of the source and of the keeper before and after a call
-pub record Counts : Type 0 where
-  pub reads : ℕ
-  pub reads' : ℕ
-  pub keeps : ℕ
-  pub keeps' : ℕ
-
 -- no call failed
 pub record IsQuiet (counts : Counts) : Type 0 where
   pub reads : counts.reads' ≡ counts.reads
   pub keeps : counts.keeps' ≡ counts.keeps
 
--- a call of the keeper failed, and no read did
-pub record IsKeepersFault (counts : Counts) : Type 0 where
+-- a call of the keeper failed, which the command had reached, and no read did
+pub record IsKeepersFault (command : Command) (call : Call) (counts : Counts) : Type 0 where
+  pub reached : Reached command call
   pub reads : counts.reads' ≡ counts.reads
   pub rose : Rose counts.keeps counts.keeps'
 
--- a read failed, and no call of the keeper did
-pub record IsSourcesFault (counts : Counts) : Type 0 where
+-- the command reads the source and a read failed, and no call of the keeper did
+pub record IsSourcesFault (command : Command) (counts : Counts) : Type 0 where
+  pub asked : reads_source command ≡ true
   pub rose : Rose counts.reads counts.reads'
   pub keeps : counts.keeps' ≡ counts.keeps
 
@@ -117,8 +113,8 @@ abbrev pub ReplyEnds : Type 0 → Command → Call → Counts → Result (List �
 ReplyEnds told command call counts (Err status.Done) = ⊥
 ReplyEnds told command call counts (Err status.NoMemory) = IsQuiet counts
 ReplyEnds told command call counts (Err status.Usage) = ⊥
-ReplyEnds told command call counts (Err status.ReadFault) = IsSourcesFault counts
-ReplyEnds told command call counts (Err status.KeeperFault) = IsKeepersFault counts
+ReplyEnds told command call counts (Err status.ReadFault) = IsSourcesFault command counts
+ReplyEnds told command call counts (Err status.KeeperFault) = IsKeepersFault command call counts
 ReplyEnds told command call counts (Err status.WriteFault) = ⊥
 ReplyEnds told command call counts answer = Replies told command call answer × IsQuiet counts
 
@@ -154,13 +150,6 @@ written (Ok given) = Ok (bytes_of given)
 written (Err refusal) = Err refusal
 
 -- ---- writing
-
--- the counts of the sink's faults, and the bytes that it told before and after a call
-pub record Output : Type 0 where
-  pub taken : Option (List ℕ)
-  pub taken' : Option (List ℕ)
-  pub writes : ℕ
-  pub writes' : ℕ
 
 -- the whole reply was written
 pub record WritesWhole (told : Type 0) (command : Command) (call : Call) (output : Output) : Type 0 where

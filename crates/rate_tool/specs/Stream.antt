@@ -1,5 +1,5 @@
 -- What reads and writes do to the bytes that a source and a sink tell, and to their counts of faults.
-use Rattle.std.specs.Prelude.{◌≡◌, ℕ, ◌≤◌, List, [], ◌++◌, take, ⊤, Option, Some, None, Result, Ok, Err, OnOk, OnErr, is_err, if◌then◌else◌}
+use Rattle.std.specs.Prelude.{◌≡◌, ℕ, ◌≤◌, List, [], ◌++◌, length, take, ⊤, Option, Some, None, Result, Ok, Err, OnOk, OnErr, is_err, if◌then◌else◌}
 pub use Rattle.register_core.specs.Counts.{Rose, one_more}
 use Rattle.rate_tool.specs.declared.stream.Failed.{Failed}
 
@@ -19,6 +19,12 @@ Gave None None bytes = ⊤
 Gave None (Some ys) bytes = ⊥
 Gave (Some xs) None bytes = ⊥
 Gave (Some xs) (Some ys) bytes = xs ≡ bytes ++ ys
+
+-- the source gave at most so many bytes
+pub record GaveFew (most : ℕ) (left left' : Option (List ℕ)) : Type 0 where
+  pub bytes : List ℕ
+  pub gave : Gave left left' bytes
+  pub few : length bytes ≤ most
 
 -- no byte is left, where that is told
 abbrev pub IsEmptied : Option (List ℕ) → Type 0

@@ -10,7 +10,7 @@ use Rattle.model_core.specs.declared.format.Format.{Format}
 use Rattle.model_core.specs.declared.format.Format.TheVariants.{Text, Latex, Csv}
 use Rattle.rate_tool.specs.declared.words.Command.{Command}
 use Rattle.model_core.specs.Name.{is_name}
-use Rattle.register_core.specs.Register.{Key}
+use Rattle.register_core.specs.Register.{Key, most_versions}
 use Rattle.rate_tool.specs.declared.words.Command.TheVariants.{Derive, Check, Store, Show, Listing, Run, Demo}
 
 -- the texts of words
@@ -60,10 +60,14 @@ check_of word = if bytes_eq word (codes "check") then Some Check else None
 abbrev pub store_of : List ℕ → List ℕ → Option Command
 store_of word name = if bytes_eq word (codes "store") then option_map Store (named name) else None
 
--- `show NAME VERSION`, with a version from 1 to 10,000
+-- a version that a name may have
+abbrev pub version_in : List ℕ → Option ℕ
+version_in word = number_in 1 most_versions word
+
+-- `show NAME VERSION`
 abbrev pub show_of : List ℕ → List ℕ → List ℕ → Option Command
 show_of word name version =
-    if bytes_eq word (codes "show") then option_and_then (λ text. option_map (Show text) (number_in 1 10000 version)) (named name) else None
+    if bytes_eq word (codes "show") then option_and_then (λ text. option_map (Show text) (version_in version)) (named name) else None
 
 -- `list`
 abbrev pub list_of : List ℕ → Option Command
@@ -75,7 +79,7 @@ key_with name version loops format = record { name = name; version = version; lo
 
 abbrev pub key_in : List ℕ → List ℕ → List ℕ → List ℕ → Option Key
 key_in version loops format name =
-    option_and_then (λ v. option_and_then (λ l. option_map (key_with name v l) (format_of format)) (number_in 1 2 loops)) (number_in 1 10000 version)
+    option_and_then (λ v. option_and_then (λ l. option_map (key_with name v l) (format_of format)) (number_in 1 2 loops)) (version_in version)
 
 abbrev pub key_of : List ℕ → List ℕ → List ℕ → List ℕ → Option Key
 key_of name version loops format = option_and_then (key_in version loops format) (named name)

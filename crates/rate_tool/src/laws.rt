@@ -4,9 +4,11 @@ ghost use Rattle.register_core.specs.Register.{Register, opening};
 ghost use Rattle.rate_tool.specs.History.{Given, IsHistory, Lead};
 ghost use Rattle.rate_tool.specs.Laws.{CommandHasOneReply, WordsHaveOneStatus};
 
-/// Where calls lead from the register that has no name to another, each ending as it is due, the
-/// calls that were answered lead there by their answers alone. There the versions of a name differ
-/// and are at most 10,000, and each output that is kept is the printed derivation of its version.
+/// Where calls lead from the register that has no name to another, each ending as it is due or with
+/// a fault, the calls that were answered lead there by their answers alone, and each wrote its answer,
+/// or a front of it where a write failed. There each name has a version and at most
+/// `MOST_VERSIONS`, which differ, and each output that is kept is the printed derivation of its
+/// version.
 #[tactic(auto, using(crate::proofs::HistoryLaws::history))]
 pub fn the_history_of_a_register()
     ensures { (calls : List Given) (last : Register) → Lead calls opening last → IsHistory opening calls last }

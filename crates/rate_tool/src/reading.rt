@@ -1,6 +1,8 @@
 //! Reading a source whole.
 ghost use Rattle.std.specs.Prelude.{◌<◌, length};
+ghost use Rattle.rate_tool.specs.Reply.{most_asked};
 ghost use Rattle.rate_tool.specs.Steps.{PieceEnds, ReadEnds};
+ghost use Rattle.rate_tool.specs.Stream.{GaveFew};
 
 use crate::status::Status;
 use crate::stream::Source;
@@ -27,8 +29,9 @@ fn read_piece<S: Source>(
     bytes: &mut Vec<u8>,
 ) -> Result<usize, Stop>
     requires { 0 < length piece.old }
-    ensures { PieceEnds (S.left source.old) (S.left source.new) bytes.old.items bytes.new.items (length piece.old)
+    ensures ended { PieceEnds (S.left source.old) (S.left source.new) bytes.old.items bytes.new.items (length piece.old)
         (S.faults source.old) (S.faults source.new) result }
+    ensures few { GaveFew (length piece.old) (S.left source.old) (S.left source.new) }
 {
     match source.read(piece) {
         Ok(count) => {
@@ -43,7 +46,8 @@ fn read_piece<S: Source>(
 
 /// Reads all the bytes, or one more than a file may have.
 pub fn read_all<S: Source>(alloc: Global, source: &mut S) -> Result<Vec<u8>, Stop>
-    ensures { ReadEnds (S.left source.old) (S.left source.new) (S.faults source.old) (S.faults source.new) result }
+    ensures ended { ReadEnds (S.left source.old) (S.left source.new) (S.faults source.old) (S.faults source.new) result }
+    ensures few { GaveFew most_asked (S.left source.old) (S.left source.new) }
 {
     let mut bytes = Vec::new(alloc);
     let mut buf = [0u8; PIECE];

@@ -3,7 +3,8 @@ ghost use Rattle.std.specs.Prelude.{◌≡◌, ◌≤◌, false, OnErr, IsSome};
 ghost use Rattle.demo_models.specs.Demo.{demo_text};
 ghost use Rattle.register_core.specs.Causes.{Stays};
 ghost use Rattle.register_core.specs.Register.{version_of};
-ghost use Rattle.rate_tool.specs.Reply.{IsPrinting, IsAcceptance, IsSummary};
+ghost use Rattle.rate_tool.specs.Reply.{IsPrinting, IsAcceptance, IsSummary, most_asked};
+ghost use Rattle.rate_tool.specs.Stream.{GaveFew};
 ghost use Rattle.rate_tool.specs.Steps.{AnswerEnds, FreshEnds, KeeperEnds, MadeEnds, ReplyEnds, SourceEnds, bytes_of, written};
 ghost use Rattle.rate_tool.specs.Words.{HasNumbers, asks_keeper, reads_source};
 
@@ -111,7 +112,8 @@ fn derive_reply<R: Threads + Sync, S: Source, G: Gate>(
     requires loops { loops ≤ 2 }
     requires one_worker { 1 ≤ workers }
     requires workers { workers ≤ 64 }
-    ensures { SourceEnds (IsPrinting loops format) (S.left source.old) (S.left source.new) (S.faults source.old) (S.faults source.new) result }
+    ensures ended { SourceEnds (IsPrinting loops format) (S.left source.old) (S.left source.new) (S.faults source.old) (S.faults source.new) result }
+    ensures few { GaveFew most_asked (S.left source.old) (S.left source.new) }
 {
     let file = read_all(alloc, source)?;
     let text = derived_text(rt, alloc, loops, format, workers, file.as_slice(), gate)?;
@@ -125,7 +127,8 @@ fn check_reply<R: Threads + Sync, S: Source, G: Gate>(
     source: &mut S,
     gate: &G,
 ) -> Result<ByteList, Status>
-    ensures { SourceEnds IsAcceptance (S.left source.old) (S.left source.new) (S.faults source.old) (S.faults source.new) result }
+    ensures ended { SourceEnds IsAcceptance (S.left source.old) (S.left source.new) (S.faults source.old) (S.faults source.new) result }
+    ensures few { GaveFew most_asked (S.left source.old) (S.left source.new) }
 {
     let file = read_all(alloc, source)?;
     let text = checked_text(rt, alloc, file.as_slice(), gate)?;
@@ -166,6 +169,7 @@ fn store_reply<S: Source, K: Keeper>(
     }) result }
     ensures told { K.is_told keeper.new → K.is_told keeper.old }
     ensures same { OnErr result (Stays K.is_told K.tables keeper.old keeper.new) }
+    ensures few { GaveFew most_asked (S.left source.old) (S.left source.new) }
 {
     let file = read_all(alloc, source)?;
     read_model(alloc, file.as_slice())?;
@@ -279,6 +283,7 @@ pub fn reply_to<R: Threads + Sync, S: Source, K: Keeper, G: Gate>(
     }) (written result) }
     ensures told { K.is_told keeper.new → K.is_told keeper.old }
     ensures same { OnErr result (Stays K.is_told K.tables keeper.old keeper.new) }
+    ensures few { GaveFew most_asked (S.left source.old) (S.left source.new) }
     ensures unread { reads_source command.now ≡ false → source.new ≡ source.old }
     ensures unasked { asks_keeper command.now ≡ false → keeper.new ≡ keeper.old }
 {

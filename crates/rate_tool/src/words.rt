@@ -1,12 +1,12 @@
 //! The words of a command line.
 ghost use Rattle.std.specs.Prelude.{◌≡◌, ◌≤◌, IfSome};
-ghost use Rattle.rate_tool.specs.Words.{command_of, check_of, demo_of, derive_of, format_of, key_of, list_of, named, number_in, run_of, show_of, store_of, texts, HasNumbers};
+ghost use Rattle.rate_tool.specs.Words.{command_of, check_of, demo_of, derive_of, format_of, key_of, list_of, named, number_in, run_of, show_of, store_of, texts, version_in, HasNumbers};
 ghost use Rattle.std.specs.Option.{option_or};
 ghost use Rattle.register_core.specs.Register.{HasLoops};
 
 use itoa::Buffer;
 use model_core::{Format, Name};
-use register_core::RunKey;
+use register_core::{MOST_VERSIONS, RunKey};
 use std::rc::RcStr;
 
 /// The most loops that a command may ask for.
@@ -14,9 +14,6 @@ const MOST_LOOPS: u32 = 2;
 
 /// The most workers that a command may ask for.
 const MOST_WORKERS: u32 = 64;
-
-/// The last version that a command may ask for.
-const LAST_VERSION: u32 = 10_000;
 
 /// A command.
 #[derive(Drop)]
@@ -80,6 +77,13 @@ fn number_in(low: u32, high: u32, word: &str) -> Option<u32>
         return None;
     }
     Some(number as u32)
+}
+
+/// The version that a word stands for.
+fn version_in(word: &str) -> Option<u32>
+    ensures { result ≡ version_in word.now }
+{
+    number_in(1, MOST_VERSIONS, word)
 }
 
 /// The printed form that a word names.
@@ -155,7 +159,7 @@ fn show_of(word: &str, name: &str, version: &str) -> Option<Command>
         return None;
     }
     let name = named(name)?;
-    let version = number_in(1, LAST_VERSION, version)?;
+    let version = version_in(version)?;
     Some(Command::Show { name, version })
 }
 
@@ -176,7 +180,7 @@ fn key_of(name: &str, version: &str, loops: &str, format: &str) -> Option<RunKey
     ensures loops { IfSome result HasLoops }
 {
     let name = named(name)?;
-    let version = number_in(1, LAST_VERSION, version)?;
+    let version = version_in(version)?;
     let loops = number_in(1, MOST_LOOPS, loops)?;
     let format = format_of(format)?;
     Some(RunKey {
