@@ -5,7 +5,6 @@ use Rattle.std.proofs.lemmas.Bool.{false≢true}
 use Rattle.model_core.specs.declared.fault.ReadFault.{ReadFault}
 use Rattle.model_core.specs.declared.model.Model.{Model}
 use Rattle.model_core.specs.Reading.{reading}
-use Rattle.derive_core.specs.declared.fault.DeriveFault.{DeriveFault}
 use Rattle.register_core.specs.Register.{Register, Key, opening, most_versions, versions_of, version_of, run_of, with_version, with_run}
 use Rattle.register_core.specs.Machine as machine
 use Rattle.register_core.specs.Machine.{number_of, count_of, store_at, show_or, missing, run_with}
@@ -13,7 +12,7 @@ use Rattle.register_core.specs.declared.register.RunState.{RunState}
 use Rattle.register_core.specs.declared.register.RunState.TheVariants.{Kept, Fresh}
 use Rattle.register_core.specs.declared.register_fault.RegisterFault.{RegisterFault}
 use Rattle.register_core.specs.declared.register_fault.RegisterFault.TheVariants as denial
-use Rattle.rate_tool.specs.Reply.{limit, denial_of, IsPrinting, IsAcceptance, IsReplyToSource, IsRunReply, IsReply, stored, store_file, store_bytes, shown}
+use Rattle.rate_tool.specs.Reply.{limit, denial_of, IsRunReply, IsReply, stored, store_file, store_bytes}
 use Rattle.rate_tool.specs.Words.{command_of}
 use Rattle.rate_tool.specs.Run.{IsStatusFor, IsDueOrFault, Wrote, status_of}
 use Rattle.rate_tool.specs.History.{Given, IsCall, Lead, answers, answered, IsStep, Step, IsOutput, IsLawful, IsHistory}

@@ -1,6 +1,7 @@
 -- How replies end.
-use Rattle.std.proofs.Common.{◌≡◌, ℕ, ◌<◌, ◌≤◌, true, false, List, [], length, Option, Some, None, Result, Ok, Err, refl, sym, ap, subst, ◌∙◌, arith, inl, inr}
-use Rattle.std.specs.Prelude.{⊤, nat_lt}
+use Rattle.std.proofs.Common.{◌≡◌, ℕ, ◌<◌, ◌≤◌, true, false, List, [], length, Option, Result, Ok, Err, refl, sym, ap, subst, ◌∙◌, arith, inl, inr}
+use Rattle.std.specs.Prelude.{nat_lt}
+use Rattle.std.specs.Result.{IsErrAnd}
 use Rattle.std.proofs.lemmas.Bool.Decides.{nat_tests}
 use Rattle.std.proofs.lemmas.Bool.{false≢true}
 use Rattle.model_core.specs.declared.fault.ReadFault.{ReadFault}
@@ -19,9 +20,9 @@ use Rattle.register_core.specs.declared.register.RunState.{RunState}
 use Rattle.register_core.specs.declared.register.RunState.TheVariants.{Kept, Fresh}
 use Rattle.register_core.specs.declared.register_fault.RegisterFault.{RegisterFault}
 use Rattle.register_core.specs.declared.register_fault.RegisterFault.TheVariants as denial
-use Rattle.rate_tool.specs.Lines.{counts_text}
+use Rattle.rate_tool.specs.Lines.{counts_text, stored_text}
 use Rattle.rate_tool.specs.Reply.{limit, refusal_of, denial_of, IsPrinting, IsAcceptance, IsSummary, IsReplyTo, IsReplyToSource, store_bytes, store_file, stored, keeping, shown, IsRunReply, IsReply}
-use Rattle.rate_tool.specs.Run.{Call, Counts, GaveFile, IsCaused, Replies, IsFile, ReachesKeeper, Reached}
+use Rattle.rate_tool.specs.Run.{Call, Counts, GaveFile, IsCaused, Replies, IsFile, ReachesKeeper}
 use Rattle.rate_tool.specs.Words.{reads_source, asks_keeper}
 use Rattle.rate_tool.specs.Steps.{WasRead, WasTooLong, ReadEnds, AnswerEnds, stopped, RepliesToSource, SourceEnds, MadeEnds, IsQuiet, KeeperReplies, KeeperEnds, IsFresh, FreshEnds, ReplyEnds}
 use Rattle.rate_tool.specs.declared.reading.Stop.{Stop}
@@ -68,6 +69,14 @@ refused_source Answers left left' reads reads' file (fault.Term bad) read quiet 
 refused_source Answers left left' reads reads' file (fault.Anomalous bad) read quiet ends = (replies_to Answers left left' file (Err (status.Anomalous bad)) read ends, quiet)
 refused_source Answers left left' reads reads' file (fault.Overflow pair) read quiet ends = (replies_to Answers left left' file (Err (status.Overflow pair)) read ends, quiet)
 refused_source Answers left left' reads reads' file fault.NoMemory read quiet ends = quiet
+
+-- the same at the exit of a `?`
+pub refused_source_exit : (Answers : FileAnswers) (left left' : Option (List ℕ)) (reads reads' : ℕ) (file bytes : List ℕ) (bad : DeriveFault) (r : Result (List ℕ) Status)
+    → WasRead left left' file × (reads' ≡ reads) → bytes ≡ file → AnswerEnds Answers bytes (Err bad) → IsErrAnd r (λ s. s ≡ refusal_of bad) → SourceEnds Answers left left' reads reads' r
+refused_source_exit Answers left left' reads reads' file bytes bad (Ok text) read same ends is = absurd is
+refused_source_exit Answers left left' reads reads' file bytes bad (Err s) read same ends is =
+    subst (λ x. SourceEnds Answers left left' reads reads' (Err x)) (sym is)
+    (refused_source Answers left left' reads reads' file bad read.0 read.1 (subst (λ b. AnswerEnds Answers b (Err bad)) same ends))
 
 -- ---- the command that makes its file
 
@@ -156,6 +165,27 @@ module _ (told : Type 0) (name : List ℕ) (call : Call) (counts : Counts) where
     },
     record { reads = reads; keeps = keeps },
   )
+
+  -- the same at the exit of a `?`
+  pub refused_store_exit : {W : Type 0} (file bytes again : List ℕ) (model : Model) (bad : RegisterFault) (r : Result (List ℕ) Status)
+      → WasRead call.left call.left' file × (counts.reads' ≡ counts.reads) → bytes ≡ file → again ≡ file → reading bytes ≡ Ok model
+      → (told → W × Ends call.register (machine.store call.register name again) call.register' (Err bad)) → IsStored (Err bad) → HasReason {T = ℕ} counts.keeps counts.keeps' (Err bad)
+      → IsErrAnd r (λ s. s ≡ denial_of bad) → ReplyEnds told (Store name) call counts r
+  refused_store_exit file bytes again model bad (Ok text) read same same' is ends numbers reason exit = absurd exit
+  refused_store_exit file bytes again model bad (Err s) read same same' is ends numbers reason exit =
+      subst (λ x. ReplyEnds told (Store name) call counts (Err x)) (sym exit)
+      (refused_store file model bad read.0 read.1 (subst (λ b. reading b ≡ Ok model) same is)
+      (λ t. subst (λ b. Ends call.register (machine.store call.register name b) call.register' (Err bad)) same' (ends t).1) numbers reason)
+
+  -- the same with the line that is told
+  pub did_store_line : {W : Type 0} (file bytes again : List ℕ) (model : Model) (number : ℕ) (line : List ℕ)
+      → WasRead call.left call.left' file × (counts.reads' ≡ counts.reads) → bytes ≡ file → again ≡ file → reading bytes ≡ Ok model
+      → (told → W × Ends call.register (machine.store call.register name again) call.register' (Ok number)) → IsStored (Ok number) → counts.keeps' ≡ counts.keeps
+      → line ≡ stored_text name number → Replies told (Store name) call (Ok line) × IsQuiet counts
+  did_store_line file bytes again model number line read same same' is ends numbers keeps told_line =
+      subst (λ l. Replies told (Store name) call (Ok l) × IsQuiet counts) (sym told_line)
+      (did_store file model number read.0 read.1 (subst (λ b. reading b ≡ Ok model) same is)
+      (λ t. subst (λ b. Ends call.register (machine.store call.register name b) call.register' (Ok number)) same' (ends t).1) numbers keeps)
 
 -- ---- commands that ask only the keeper
 
@@ -388,6 +418,19 @@ pub check_ends : (told : Type 0) (call : Call) (counts : Counts) (answer given :
 check_ends told call counts answer given ends same keeps is =
     subst (λ a. ReplyEnds told Check call counts a) (sym is)
     (from_source told Check call counts IsAcceptance (λ _ _ replies. (replies, same)) (λ _ _. tt) refl keeps answer ends)
+
+-- the same for the command as it is matched
+pub derive_exit : (told : Type 0) (command : Command) (loops : ℕ) (format : Format) (workers : ℕ) (call : Call) (counts : Counts) (answer given : Result (List ℕ) Status)
+    → command ≡ Derive loops format workers → SourceEnds (IsPrinting loops format) call.left call.left' counts.reads counts.reads' answer → call.register' ≡ call.register
+    → counts.keeps' ≡ counts.keeps → given ≡ answer → ReplyEnds told command call counts given
+derive_exit told command loops format workers call counts answer given matched ends same keeps is =
+    subst (λ x. ReplyEnds told x call counts given) (sym matched) (derive_ends told loops format workers call counts answer given ends same keeps is)
+
+pub check_exit : (told : Type 0) (command : Command) (call : Call) (counts : Counts) (answer given : Result (List ℕ) Status)
+    → command ≡ Check → SourceEnds IsAcceptance call.left call.left' counts.reads counts.reads' answer → call.register' ≡ call.register
+    → counts.keeps' ≡ counts.keeps → given ≡ answer → ReplyEnds told command call counts given
+check_exit told command call counts answer given matched ends same keeps is =
+    subst (λ x. ReplyEnds told x call counts given) (sym matched) (check_ends told call counts answer given ends same keeps is)
 
 pub demo_ends : (told : Type 0) (seed : ℕ) (call : Call) (counts : Counts) (answer given : Result (List ℕ) Status) → MadeEnds (IsSummary seed) (demo_text seed) answer
     → call.register' ≡ call.register → IsQuiet counts → given ≡ answer → ReplyEnds told (Demo seed) call counts given

@@ -7,10 +7,10 @@ use Rattle.std.proofs.lemmas.Bool.{cases_Bool, false≢true}
 use Rattle.derive_core.specs.declared.fault.DeriveFault.{DeriveFault}
 use Rattle.register_core.specs.Causes.{Stays}
 use Rattle.register_core.specs.Register.{Register}
-use Rattle.rate_tool.specs.Stream.{Rose, Gave, IsEmptied, Took, TookFront}
+use Rattle.rate_tool.specs.Stream.{Rose, IsEmptied}
 use Rattle.rate_tool.specs.Words.{command_of, reads_source, asks_keeper}
 use Rattle.rate_tool.specs.Reply.{limit, IsPrinting, IsAcceptance, IsReplyToSource, store_bytes, IsReply}
-use Rattle.rate_tool.specs.Run.{Call, Counts, Output, GaveFile, IsCaused, Replies, HasReply, IsFile, ReachesKeeper, ReachedBy, ReachKeeper, Reached, IsSilent, IsAnswered, IsStatusFor, IsDue, IsDueOrFault, IsAnswer, Wrote, IsCausedBy, WroteAnswer, WroteFront, EndsDue, EndsComplete, RunEnds, AreNoticed, status_of, read_by, read_source, asked_by, ask_keeper, needed}
+use Rattle.rate_tool.specs.Run.{Call, Counts, Output, GaveFile, Replies, HasReply, IsFile, ReachesKeeper, ReachedBy, ReachKeeper, Reached, IsSilent, IsStatusFor, IsDue, IsDueOrFault, IsAnswer, Wrote, IsCausedBy, WroteAnswer, WroteFront, RunEnds, AreNoticed, status_of, read_by, read_source, asked_by, ask_keeper, needed}
 use Rattle.rate_tool.specs.Steps.{IsQuiet, WritesWhole, WritesFront, CommandEnds}
 use Rattle.rate_tool.proofs.ReplyLaws.{long_store}
 use Rattle.rate_tool.specs.declared.words.Command.{Command}

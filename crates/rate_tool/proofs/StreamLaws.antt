@@ -3,7 +3,7 @@ use Rattle.std.proofs.Common.{◌≡◌, ℕ, ◌+◌, ◌≤◌, List, [], leng
 use Rattle.std.proofs.lemmas.List.{take_all, length-drop}
 use Rattle.std.proofs.Math.Seq.{take-add}
 use Rattle.rate_tool.specs.Stream.{Gave, GaveFew, Took}
-use Rattle.rate_tool.specs.Reply.{limit, most_asked}
+use Rattle.rate_tool.specs.Reply.{most_asked}
 use Rattle.rate_tool.specs.Steps.{WasRead}
 
 -- one write after another
