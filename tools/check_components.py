@@ -104,11 +104,17 @@ def check(model, theory, published):
                 i, j = bad[0]
                 faults.append(f"masses at {bad[:4]}: {ours[i][j]} here, {theirs[i][j]} there")
         if theory.potential:
-            zero = {name: [0j] * len(x) for name, x in fields.items()}
-            ours = theory.potential(beta, fields)
-            theirs = theory.beta_potential(v, fields) - theory.beta_potential(v, zero)
-            if far(ours, theirs):
-                faults.append(f"potential: {ours} here, {theirs} there")
+            scaled = lambda t: {name: [t * e for e in x] for name, x in fields.items()}
+            ours = lambda t: theory.potential(beta, scaled(t))
+            theirs = lambda t: theory.beta_potential(v, scaled(t))
+            # A term linear in a singlet, and a constant, have no line.
+            steps = ((1, 0),) if all(f.reps or f.charge for f in theory.scalars) else ((2, 1, 0), (1, 0, -1), (3, 2, 1))
+            for step in steps:
+                weights = (1, -1) if len(step) == 2 else (1, -2, 1)
+                here = sum(w * ours(t) for w, t in zip(weights, step))
+                there = sum(w * theirs(t) for w, t in zip(weights, step))
+                if far(here, there):
+                    faults.append(f"potential: {here} here, {there} there")
     if model in RELATIONS:
         v = at_random(found, rng)
         beta = lambda loops=1: Values({s: value(text, v) for (k, s), text in found.items() if k == loops})
@@ -577,7 +583,7 @@ def build():
 
 
 def five_theory(fifteen):
-    """The two extensions of minimal SU(5): with a scalar 15, or with a fermion 24."""
+    """Minimal SU(5) with a scalar 15, with a fermion 24, or, for None, as it is."""
     ten, five, adjoint = (15 + 20, 10), (10, 5), (45, 24)
     tens, adjoints = basis(10, antisymmetric_matrix, 5), basis(24, adjoint_matrix, 5)
     epsilon = [(p, sign(p)) for p in itertools.permutations(range(5))]
@@ -613,6 +619,8 @@ def five_theory(fifteen):
         if fifteen:
             s = symmetric_matrix(f["S"], 5)
             return found + within(five, lambda p, q: c.y15 / 2 * s[p][q])
+        if fifteen is None:
+            return found
         found += between(five, adjoint, lambda p, q: c.y24 * applied(adjoints[q], h)[p])
         moved = [product(b, x) for b in adjoints]
         return found + within(adjoint, lambda p, q: c.mA / 2 * (p == q) + c.yP * trace(adjoints[p], moved[q]))
@@ -620,7 +628,8 @@ def five_theory(fifteen):
     scalars = [Multiplet("Phi", {"SU5": "adjoint"}, real=True), Multiplet("H", {"SU5": "fund"})]
     if fifteen:
         return Theory({"SU5": (5, "g")}, fermions, scalars + [Multiplet("S", {"SU5": "sym2"})], potential, masses)
-    return Theory({"SU5": (5, "g")}, fermions + [Multiplet("A", {"SU5": "adjoint"})], scalars, potential, masses)
+    more = [] if fifteen is None else [Multiplet("A", {"SU5": "adjoint"})]
+    return Theory({"SU5": (5, "g")}, fermions + more, scalars, potential, masses)
 
 
 def sign(permutation):
@@ -797,6 +806,298 @@ def keep(v, beta):
 
 SIGNS = (1, 1)
 
+
+
+# The theories that stood here first.
+
+
+def up_matrix(y, h):
+    return [e for i in range(3) for j in range(3)
+            for e in up(y[i][j], h, lambda a, c, i=i: Q(i + 1, a, c), lambda c, j=j: U(j + 1, c))]
+
+
+def down_matrix(y, h):
+    return [e for i in range(3) for j in range(3)
+            for e in down(y[i][j], h, lambda a, c, i=i: Q(i + 1, a, c), lambda c, j=j: D(j + 1, c))]
+
+
+def usual_matrices(c, h):
+    return up_matrix(c.matrix("Yu", 3, 3), h) + down_matrix(c.matrix("Yd", 3, 3), h) + leptons(c.matrix("Ye", 3, 3), h)
+
+
+@theory("standard_model_three")
+def build():
+    return Theory(HYPER, usual_fermions(), [doublet()], lambda c, f: usual_potential(c, f["H"], 1 / 2),
+                  lambda c, f: usual_matrices(c, f["H"]))
+
+
+@theory("standard_model_third")
+def build():
+    return Theory(HYPER, usual_fermions(), [doublet()], lambda c, f: usual_potential(c, f["H"], 1 / 2),
+                  lambda c, f: up(c.yt, f["H"]) + down(c.yb, f["H"]) + lepton(c.ytau, f["H"]))
+
+
+def usual_published(size, majorana=False):
+    def formulas(v):
+        yu, yd, ye = (v.matrix(name, size, size) for name in ("Yu", "Yd", "Ye"))
+        uu, dd, ee = square(yu), square(yd), square(ye)
+        t = (3 * trace(uu) + 3 * trace(dd) + trace(ee)).real
+        a, b, s = v.g1 ** 2, v.g2 ** 2, v.g3 ** 2
+        found = {}
+        if majorana:
+            yn, m = v.matrix("Yn", 3, 3), v.symmetric("M", 3)
+            nn = square(yn)
+            t += trace(nn).real
+            right = product(m, product(dagger(yn), yn))
+            found = {**entries("Yn", matrices((3 / 2, nn, yn), (-3 / 2, ee, yn), (t - 3 / 4 * a - 9 / 4 * b, yn))),
+                     **entries("M", matrices((1, right), (1, transpose(right))), True)}
+            lepton_part = matrices((3 / 2, ee, ye), (-3 / 2, nn, ye))
+        else:
+            lepton_part = matrices((3 / 2, ee, ye))
+            fourth = (3 * trace(uu, uu) + 3 * trace(dd, dd) + trace(ee, ee)).real
+            found[1, "lam"] = (12 * v.lam ** 2 + 4 * t * v.lam - 4 * fourth - (3 * a + 9 * b) * v.lam + 3 / 4 * a * a
+                               + 3 / 2 * a * b + 9 / 4 * b * b)
+        return {**found, **entries("Ye", plus(lepton_part, times(t - 15 / 4 * a - 9 / 4 * b, ye))),
+                **entries("Yu", matrices((3 / 2, uu, yu), (-3 / 2, dd, yu), (t - 17 / 12 * a - 9 / 4 * b - 8 * s, yu))),
+                **entries("Yd", matrices((3 / 2, dd, yd), (-3 / 2, uu, yd), (t - 5 / 12 * a - 9 / 4 * b - 8 * s, yd)))}
+    return formulas
+
+
+PUBLISHED["standard_model_one"] = usual_published(1)
+PUBLISHED["standard_model_three"] = usual_published(3)
+PUBLISHED["seesaw_type_one"] = usual_published(3, True)
+
+
+@published("standard_model_third")
+def formulas(v):
+    t, b, l = v.yt ** 2, v.yb ** 2, v.ytau ** 2
+    p, q, s = v.g1 ** 2, v.g2 ** 2, v.g3 ** 2
+    whole = 3 * t + 3 * b + l
+    return {(1, "g1"): 41 / 6 * v.g1 ** 3, (1, "g2"): -19 / 6 * v.g2 ** 3, (1, "g3"): -7 * v.g3 ** 3,
+            (2, "g1"): v.g1 ** 3 * (199 / 18 * p + 9 / 2 * q + 44 / 3 * s - 17 / 6 * t - 5 / 6 * b - 5 / 2 * l),
+            (2, "g2"): v.g2 ** 3 * (3 / 2 * p + 35 / 6 * q + 12 * s - 3 / 2 * t - 3 / 2 * b - 1 / 2 * l),
+            (2, "g3"): v.g3 ** 3 * (11 / 6 * p + 9 / 2 * q - 26 * s - 2 * t - 2 * b),
+            (1, "yt"): v.yt * (3 / 2 * t - 3 / 2 * b + whole - 17 / 12 * p - 9 / 4 * q - 8 * s),
+            (1, "yb"): v.yb * (3 / 2 * b - 3 / 2 * t + whole - 5 / 12 * p - 9 / 4 * q - 8 * s),
+            (1, "ytau"): v.ytau * (3 / 2 * l + whole - 15 / 4 * p - 9 / 4 * q),
+            (1, "lam"): 12 * v.lam ** 2 + 4 * whole * v.lam - 4 * (3 * t * t + 3 * b * b + l * l) - (3 * p + 9 * q) * v.lam
+            + 3 / 4 * p * p + 3 / 2 * p * q + 9 / 4 * q * q}
+
+
+@theory("seesaw_type_one")
+def build():
+    def masses(c, f):
+        y, m = c.matrix("Yn", 3, 3), c.symmetric("M", 3)
+        lower = [sum(EPS[a][b] * f["H"][b] for b in range(2)) for a in range(2)]
+        return (usual_matrices(c, f["H"]) + between((36, 6), (MORE, 3), lambda p, q: y[p // 2][q] * lower[p % 2])
+                + within((MORE, 3), lambda p, q: m[p][q] / 2))
+    return Theory(HYPER, usual_fermions(Multiplet("N", generations=3)), [doublet()],
+                  lambda c, f: usual_potential(c, f["H"], 1 / 4), masses)
+
+
+@theory("real_singlet")
+def build():
+    def potential(c, f):
+        n, s = norm(f["H"]), f["S"][0].real
+        return (c.m2 * n + c.lam * n * n + c.a1 / 2 * n * s + c.a2 / 2 * n * s * s + c.b2 / 2 * s * s + c.b3 / 3 * s ** 3
+                + c.b4 / 4 * s ** 4)
+    return Theory(HYPER, usual_fermions(), [doublet(), Multiplet("S", real=True)], potential, lambda c, f: up(c.yt, f["H"]))
+
+
+@published("real_singlet")
+def formulas(v):
+    a, b, t = v.g1 ** 2, v.g2 ** 2, v.yt ** 2
+    return {(1, "lam"): 24 * v.lam ** 2 - 6 * t * t + 3 / 8 * (2 * b * b + (a + b) ** 2) + (12 * t - 9 * b - 3 * a) * v.lam
+            + v.a2 ** 2 / 2,
+            (1, "a2"): 4 * v.a2 ** 2 + 12 * v.lam * v.a2 + 6 * v.b4 * v.a2 + 6 * t * v.a2 - 3 / 2 * (3 * b + a) * v.a2,
+            (1, "b4"): 2 * v.a2 ** 2 + 18 * v.b4 ** 2}
+
+
+@theory("complex_singlet")
+def build():
+    def potential(c, f):
+        n, s = norm(f["H"]), norm(f["S"])
+        return c.lamH * n * n + c.lamS * s * s + 2 * c.lamHS * n * s + c.mH2 * n + c.mS2 * s
+    return Theory(HYPER, usual_fermions(), [doublet(), Multiplet("S")], potential, lambda c, f: up(c.yt, f["H"]))
+
+
+@published("complex_singlet")
+def formulas(v):
+    a, b, t = v.g1 ** 2, v.g2 ** 2, v.yt ** 2
+    return {(1, "lamH"): 24 * v.lamH ** 2 + 4 * v.lamHS ** 2 + (12 * t - 3 * a - 9 * b) * v.lamH - 6 * t * t
+            + 3 / 8 * (2 * b * b + (a + b) ** 2),
+            (1, "lamHS"): 8 * v.lamHS ** 2 + 4 * (3 * v.lamH + 2 * v.lamS) * v.lamHS + 1 / 2 * (12 * t - 3 * a - 9 * b) * v.lamHS,
+            (1, "lamS"): 20 * v.lamS ** 2 + 8 * v.lamHS ** 2}
+
+
+@theory("two_doublets_general")
+def build():
+    def potential(c, f):
+        x, y = f["P1"], f["P2"]
+        return (two_doublets(c, x, y) + 2 * ((c.lam6 * norm(x) + c.lam7 * norm(y) - c.m12sq) * dot(x, y)).real
+                + c.m11sq * norm(x) + c.m22sq * norm(y))
+    return Theory(HYPER, usual_fermions(), [doublet("P1"), doublet("P2")], potential,
+                  lambda c, f: up(c.y1, f["P1"]) + up(c.y2, f["P2"]))
+
+
+@theory("with_table")
+def build():
+    def potential(c, f):
+        h, x = f["H"], f["X"]
+        return (c.lam1 / 2 * norm(h) ** 2 + c.lam2 / 2 * norm(x) ** 2 + (c.kap0 - c.kap1) * norm(h) * norm(x)
+                + 2 * c.kap1 * abs(dot(h, x)) ** 2 + c.lam5 * (dot(h, x) ** 2).real + c.mHsq * norm(h) + c.mXsq * norm(x))
+    return Theory({"U1": HYPER["U1"], "SU2": HYPER["SU2"]}, [], [doublet("H"), doublet("X")], potential)
+
+
+@theory("scalar_leptoquark")
+def build():
+    def potential(c, f):
+        n, s = norm(f["H"]), norm(f["S"])
+        return c.lam * n * n + c.lamHS * n * s + c.lamS * s * s + c.mHsq * n + c.mSsq * s
+
+    def masses(c, f):
+        return (up(c.yt, f["H"]) + down(c.yb, f["H"]) + lepton(c.ytau, f["H"])
+                + [(Q(3, a, k), L(3, b), c.yLL * EPS[a][b] * f["S"][k]) for k in range(3) for a, b in ((0, 1), (1, 0))]
+                + [(U(3, k), E(3), c.yRR * f["S"][k].conjugate()) for k in range(3)])
+    return Theory(HYPER, usual_fermions(), [doublet(), Multiplet("S", {"SU3": "conj"}, 1 / 3)], potential, masses)
+
+
+@theory("minimal_su5")
+def build():
+    return five_theory(None)
+
+
+@theory("adjoint_scalar")
+def build():
+    return Theory({"SU2": (2, "g")}, [], [triplet("Phi", real=True)], lambda c, f: c.lam / 4 * norm(f["Phi"]) ** 2)
+
+
+@theory("scalar_qed")
+def build():
+    return Theory({"U1": (1, "g")}, [], [Multiplet("p", charge=1)], lambda c, f: c.lam * norm(f["p"]) ** 2)
+
+
+@theory("dirac_mass")
+def build():
+    def potential(c, f):
+        s = f["S"][0].real
+        return c.lam / 24 * s ** 4 + c.h / 6 * s ** 3 + c.m2 / 2 * s ** 2
+    return Theory({}, [Multiplet("A"), Multiplet("B")], [Multiplet("S", real=True)], potential,
+                  lambda c, f: [(0, 1, c.y * f["S"][0] + c.mf)])
+
+
+@published("qed")
+def formulas(v):
+    return {(1, "g"): 4 / 3 * v.g ** 3, (2, "g"): 4 * v.g ** 5}
+
+
+@published("yang_mills")
+def formulas(v):
+    return {(1, "g"): -11 * v.g ** 3, (2, "g"): -102 * v.g ** 5}
+
+
+@published("qcd_six_flavours")
+def formulas(v):
+    return {(1, "g"): -7 * v.g ** 3, (2, "g"): -26 * v.g ** 5, **{(1, m): -8 * v.g ** 2 * v[m] for m in v if m != "g"}}
+
+
+def bidoublet(x):
+    """P as a matrix, and its dual eps P* eps^T, whose entries are those of sigma_2 P* sigma_2."""
+    p = [x[:2], x[2:]]
+    star = [[e.conjugate() for e in row] for row in p]
+    return p, product(product(EPS, star), transpose(EPS))
+
+
+def bidoublet_potential(c, p, dual):
+    x, y = trace(dagger(p), p).real, trace(dual, dagger(p))
+    return x, y, (c.lam1 * x * x + 2 * c.lam2 * (y * y).real + c.lam3 * abs(y) ** 2 + 2 * c.lam4 * x * y.real)
+
+
+@theory("left_right")
+def build():
+    def potential(c, f):
+        p, dual = bidoublet(f["P"])
+        l, r = adjoint_matrix(f["DL"], 2), adjoint_matrix(f["DR"], 2)
+        x, y, total = bidoublet_potential(c, p, dual)
+        ll, rr = trace(l, dagger(l)).real, trace(r, dagger(r)).real
+        pl, pr = trace(l, l), trace(r, r)
+        total += c.rho1L * ll ** 2 + c.rho1R * rr ** 2 + c.rho2L * abs(pl) ** 2 + c.rho2R * abs(pr) ** 2 + c.rho3 * ll * rr
+        total += 2 * c.rho4 * (pl * pr.conjugate()).real + x * (c.alpha1L * ll + c.alpha1R * rr)
+        total += 2 * y.real * (c.alpha2L * ll + c.alpha2R * rr)
+        total += c.alpha3L * trace(p, dagger(p), l, dagger(l)).real + c.alpha3R * trace(dagger(p), p, r, dagger(r)).real
+        total += 2 * (c.beta1 * trace(p, r, dagger(p), dagger(l)) + c.beta2 * trace(dual, r, dagger(p), dagger(l))
+                      + c.beta3 * trace(p, r, dagger(dual), dagger(l))).real
+        return total - c.mu1sq * x - 2 * c.mu2sq * y.real - c.mu3Lsq * ll - c.mu3Rsq * rr
+
+    def masses(c, f):
+        p, dual = bidoublet(f["P"])
+        l, r = adjoint_matrix(f["DL"], 2), adjoint_matrix(f["DR"], 2)
+        quark = plus(times(c.hq, p), times(c.hqt, dual))
+        lead = plus(times(c.hl, p), times(c.hlt, dual))
+        found = [(3 * a + k, 6 + 3 * b + k, quark[a][b].conjugate()) for a in range(2) for b in range(2) for k in range(3)]
+        found += [(12 + a, 14 + b, lead[a][b].conjugate()) for a in range(2) for b in range(2)]
+        left, right = product(EPS, l), product(EPS, [[e.conjugate() for e in row] for row in r])
+        return (found + within((12, 2), lambda i, j: c.fL * left[i][j]) + within((14, 2), lambda i, j: c.fR * right[i][j]))
+    groups = {"SU2L": (2, "gL"), "SU2R": (2, "gR"), "SU3": (3, "g3"), "BL": (1, "gB")}
+    fermions = [Multiplet("Q", {"SU2L": "fund", "SU3": "fund"}, 1 / 6), Multiplet("Qc", {"SU2R": "conj", "SU3": "conj"}, -1 / 6),
+                Multiplet("L", {"SU2L": "fund"}, -1 / 2), Multiplet("Lc", {"SU2R": "conj"}, 1 / 2)]
+    scalars = [Multiplet("P", {"SU2L": "fund", "SU2R": "conj"}), Multiplet("DL", {"SU2L": "adjoint"}, 1),
+               Multiplet("DR", {"SU2R": "adjoint"}, 1)]
+    return Theory(groups, fermions, scalars, potential, masses)
+
+
+@theory("pati_salam")
+def build():
+    def potential(c, f):
+        p, dual = bidoublet(f["P"])
+        x = [f["X"][2 * k:2 * k + 2] for k in range(4)]
+        size, y, total = bidoublet_potential(c, p, dual)
+        k = [[sum(row[r].conjugate() * row[s] for row in x) for s in range(2)] for r in range(2)]
+        xx = trace(k).real
+        third = sum(norm(applied(p, row)) for row in x)
+        return (total + c.kap1 * xx ** 2 + c.kap2 * trace(k, k).real + c.alpha1 * size * xx + 2 * c.alpha2 * y.real * xx
+                + c.alpha3 * third + c.mP1sq * size + 2 * c.mP2sq * y.real + c.mXsq * xx)
+
+    def masses(c, f):
+        p, dual = bidoublet(f["P"])
+        form = plus(times(c.y1, p), times(c.y2, dual))
+        own, other, last = 16, 24 + 16, 48
+        found = [(own + 2 * k + a, other + 2 * k + r, form[a][r].conjugate()) for k in range(4) for a in range(2) for r in range(2)]
+        found += [(other + i, last, c.yN * f["X"][i]) for i in range(8)]
+        return found + [(last, last, c.mN + 0j)]
+    groups = {"SU4": (4, "g4"), "SU2L": (2, "gL"), "SU2R": (2, "gR")}
+    fermions = [Multiplet("F", {"SU4": "fund", "SU2L": "fund"}, generations=3),
+                Multiplet("Fc", {"SU4": "conj", "SU2R": "conj"}, generations=3), Multiplet("N")]
+    scalars = [Multiplet("P", {"SU2L": "fund", "SU2R": "conj"}), Multiplet("X", {"SU4": "fund", "SU2R": "fund"})]
+    return Theory(groups, fermions, scalars, potential, masses)
+
+
+@published("inert_doublet")
+def formulas(v):
+    """Those of two doublets of type I, with lambda_1 and lambda_2 twice those here."""
+    a, b, t = v.g1 ** 2, v.g2 ** 2, 3 * v.yt ** 2 + 3 * v.yb ** 2 + v.ytau ** 2
+    l1, l2 = 2 * v.lam1, 2 * v.lam2
+    own = lambda l: (12 * l * l + 4 * v.lam3 ** 2 + 4 * v.lam3 * v.lam4 + 2 * v.lam4 ** 2 + 2 * v.lam5 ** 2
+                     + 3 / 4 * (3 * b * b + a * a + 2 * a * b) - 3 * (3 * b + a) * l)
+    gauge = -3 * (3 * b + a) + 2 * t
+    return {(1, "lam1"): (own(l1) + 4 * t * l1 - 12 * v.yt ** 4 - 12 * v.yb ** 4 - 4 * v.ytau ** 4) / 2,
+            (1, "lam2"): own(l2) / 2,
+            (1, "lam3"): (l1 + l2) * (6 * v.lam3 + 2 * v.lam4) + 4 * v.lam3 ** 2 + 2 * v.lam4 ** 2 + 2 * v.lam5 ** 2
+            + 3 / 4 * (3 * b * b + a * a - 2 * a * b) + gauge * v.lam3,
+            (1, "lam4"): 2 * (l1 + l2) * v.lam4 + 8 * v.lam3 * v.lam4 + 4 * v.lam4 ** 2 + 8 * v.lam5 ** 2 + 3 * a * b
+            + gauge * v.lam4,
+            (1, "lam5"): (2 * (l1 + l2 + 4 * v.lam3 + 6 * v.lam4) + gauge) * v.lam5}
+
+
+@published("generated_block")
+def formulas(v):
+    g = v.g ** 2
+    return {(1, "lp"): 20 * v.lp ** 2 - 48 * g * v.lp + 96 * g * g, (1, "lr"): 20 * v.lr ** 2 - 108 * g * v.lr + 486 * g * g}
+
+
+@published("two_fermions")
+def formulas(v):
+    return {(1, "a"): 4 * v.a ** 3 + 8 * v.a * v.b ** 2, (1, "b"): 4 * v.a ** 2 * v.b + 5 * v.b ** 3}
 
 
 def main(names):
