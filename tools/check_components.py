@@ -70,8 +70,9 @@ def at_random(found, rng):
     text = " ".join(found.values())
     coupling = lambda symbol: symbol.partition("[")[0]
     conjugated = {coupling(s) for s in re.findall(r"conj\(([^)]*)\)", text)}
+    symbols = [s for _, s in found] + sorted(set(re.findall(r"[A-Za-z]\w*(?:\[\d,\d\])?", text)) - {"conj"})
     return Values({s: rng.uniform(0.3, 1.2) * (cmath.exp(1j * rng.uniform(0, 6)) if coupling(s) in conjugated else 1)
-                   for _, s in found})
+                   for s in dict.fromkeys(symbols)})
 
 
 def far(x, y):
@@ -1098,6 +1099,23 @@ def formulas(v):
 @published("two_fermions")
 def formulas(v):
     return {(1, "a"): 4 * v.a ** 3 + 8 * v.a * v.b ** 2, (1, "b"): 4 * v.a ** 2 * v.b + 5 * v.b ** 3}
+
+
+@theory("generated_block")
+def build():
+    return Theory({"U1": (1, "g")}, [], [Multiplet("P", charge=2), Multiplet("R", charge=3)])
+
+
+@theory("open_block")
+def build():
+    return Theory({"SU3": (3, "g")}, [], [Multiplet("A", {"SU3": "fund"}), Multiplet("B", {"SU3": "fund"})])
+
+
+@published("open_block")
+def formulas(v):
+    """The part of k, which has no line, is worked out by hand: three components of the other triplet."""
+    own = lambda l: 28 * l * l - 16 * v.g ** 2 * l + 13 / 6 * v.g ** 4 + 3 * v.k ** 2
+    return {(1, "la"): own(v.la), (1, "lb"): own(v.lb)}
 
 
 def main(names):
