@@ -14,8 +14,8 @@ import random
 import re
 import sys
 
-from component_theory import (Multiplet, Theory, adjoint_matrix, antisymmetric_matrix, commutator, dagger, identity, plus,
-                              product, symmetric_matrix, times, trace, transpose)
+from component_theory import (Multiplet, Theory, adjoint_matrix, antisymmetric_matrix, commutator, dagger, plus, product,
+                              symmetric_matrix, times, trace, transpose)
 
 MODELS = pathlib.Path(__file__).resolve().parent.parent / "models"
 HYPER = {"U1": (1, "g1"), "SU2": (2, "g2"), "SU3": (3, "g3")}

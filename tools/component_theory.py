@@ -5,7 +5,6 @@ fermions in a background of the scalars. The beta functions come from the one-lo
 the anomalous dimensions of the fields, from the textbook formula for Yukawa matrices with real scalar fields, and from sums
 of indices and Casimirs. Nothing here reads a model file: check_components.py compares the two."""
 import math
-import random
 
 
 def gell_mann(n):
@@ -154,12 +153,8 @@ class Theory:
                      for part in ((1,) if f.real else (math.sqrt(0.5), 1j * math.sqrt(0.5)))]
         self.moved = {(f.name, g): self.act(f, g) for f in scalars for g in groups}
 
-    def dimension(self, field, but=None):
-        total = 1
-        for group, word in field.reps.items():
-            if group != but:
-                total *= DIMENSIONS[word](self.groups[group][0])
-        return total
+    def dimension(self, field):
+        return math.prod(DIMENSIONS[word](self.groups[group][0]) for group, word in field.reps.items())
 
     def casimir(self, field, group):
         n = self.groups[group][0]
@@ -193,8 +188,9 @@ class Theory:
     def casimir_list(self, group):
         return [self.casimir(f, group) for f in self.fermions for _ in range(self.dimension(f) * f.generations)]
 
-    def point(self, rng, scale=1.0):
-        return {f.name: [scale * (rng.uniform(-1, 1) + (0 if f.real else 1j * rng.uniform(-1, 1)))
+    def point(self, rng):
+        """A background at random."""
+        return {f.name: [rng.uniform(-1, 1) + (0 if f.real else 1j * rng.uniform(-1, 1))
                          for _ in range(self.dimension(f) * f.generations)] for f in self.scalars}
 
     def shifted(self, fields, *moves):
@@ -261,36 +257,43 @@ class Theory:
         v = [self.potential(couplings, self.shifted(fields, (move, s))) for s in (-2, -1, 1, 2)]
         return (v[0] - 8 * v[1] + 8 * v[2] - v[3]) / 12
 
-    def beta_potential(self, couplings, fields):
-        """The beta function of the potential in the background."""
-        count = len(self.real)
+    def scalar_part(self, couplings, fields):
+        """Half the trace of the squared mass matrix of the scalars, squared."""
         own = [self.second(couplings, fields, r) for r in self.real]
         total = sum(x * x for x in own) / 2
-        for a in range(count):
+        for a in range(len(self.real)):
             for b in range(a):
                 total += ((self.second(couplings, fields, self.real[a], self.real[b]) - own[a] - own[b]) / 2) ** 2
-        if self.masses is not None and self.size:
-            m = self.matrix(couplings, fields)
-            square = product(m, dagger(m))
-            total -= sum(abs(e) ** 2 for row in square for e in row)
+        return total
+
+    def gauge_part(self, couplings, fields):
+        """Three halves of the trace of the squared mass matrix of the gauge fields, squared."""
         vectors = []
         for group, (_, coupling) in self.groups.items():
             charged = [f for f in self.scalars if self.moved[f.name, group]]
             for at in range(max([len(self.moved[f.name, group]) for f in charged] + [0])):
                 vectors.append({(f.name, k): couplings[coupling] * math.sqrt(1 if f.real else 2) * e for f in charged
                                 for k, e in enumerate(self.apply(self.moved[f.name, group][at], fields[f.name]))})
-        for x in vectors:
-            for y in vectors:
-                total += 1.5 * sum((e.conjugate() * y[k]).real for k, e in x.items() if k in y) ** 2
+        return sum(1.5 * sum((e.conjugate() * y[k]).real for k, e in x.items() if k in y) ** 2 for x in vectors for y in vectors)
+
+    def field_part(self, couplings, fields):
+        """The slope of the potential with the anomalous dimensions of the fields."""
         slope = [self.first(couplings, fields, r) for r in self.real]
         coordinates = self.coordinates(fields)
         gamma = self.anomalous(self.yukawas(couplings)[0])
-        for a in range(count):
-            if gamma:
-                total += coordinates[a] * sum(gamma[a][b] * slope[b] for b in range(count))
-            field = next(f for f in self.scalars if f.name == self.real[a][0])
+        kinds = {f.name: f for f in self.scalars}
+        total = sum(coordinates[a] * entry * slope[b] for a, row in enumerate(gamma) for b, entry in enumerate(row))
+        for a, (name, _, _) in enumerate(self.real):
             for group, (_, coupling) in self.groups.items():
-                total -= 3 * couplings[coupling] ** 2 * self.casimir(field, group) * coordinates[a] * slope[a]
+                total -= 3 * couplings[coupling] ** 2 * self.casimir(kinds[name], group) * coordinates[a] * slope[a]
+        return total
+
+    def beta_potential(self, couplings, fields):
+        """The beta function of the potential in the background."""
+        total = self.scalar_part(couplings, fields) + self.gauge_part(couplings, fields) + self.field_part(couplings, fields)
+        if self.masses is not None and self.size:
+            m = self.matrix(couplings, fields)
+            total -= sum(abs(e) ** 2 for row in product(m, dagger(m)) for e in row)
         return total
 
     def apply(self, matrix, vector):
@@ -298,7 +301,7 @@ class Theory:
         return [sum(matrix[i][k] * vector[start + k] for k in range(size)) for start in range(0, len(vector), size)
                 for i in range(size)]
 
-    def index(self, field, group, but_other=None):
+    def index(self, field, group):
         """The Dynkin index of a field, all its components and generations counted."""
         n = self.groups[group][0]
         return self.dimension(field) * field.generations * self.casimir(field, group) / (n * n - 1 if n > 1 else 1)
@@ -310,17 +313,14 @@ class Theory:
         g = couplings[coupling]
         one = -11 / 3 * own
         two = -34 / 3 * own ** 2 * g * g
-        for fields, part, rest in ((self.fermions, 2 / 3, 10 / 3), (self.scalars, None, None)):
-            for f in fields:
-                t = self.index(f, group)
-                charges = sum(couplings[c] ** 2 * self.casimir(f, k) for k, (_, c) in self.groups.items())
-                if part:
-                    one += 2 / 3 * t
-                    two += t * (10 / 3 * own * g * g + 2 * charges)
-                else:
-                    half = 1 if not f.real else 0.5
-                    one += half / 3 * t
-                    two += half * t * (2 / 3 * own * g * g + 4 * charges)
+        squares = lambda f: sum(couplings[c] ** 2 * self.casimir(f, k) for k, (_, c) in self.groups.items())
+        for f in self.fermions:
+            one += 2 / 3 * self.index(f, group)
+            two += self.index(f, group) * (10 / 3 * own * g * g + 2 * squares(f))
+        for f in self.scalars:
+            t = self.index(f, group) * (0.5 if f.real else 1)
+            one += 1 / 3 * t
+            two += t * (2 / 3 * own * g * g + 4 * squares(f))
         c = self.casimir_list(group)
         for y in self.yukawas(couplings)[0]:
             two -= sum(c[i] * abs(e) ** 2 for i, row in enumerate(y) for e in row) / (n * n - 1 if n > 1 else 1)
