@@ -18,7 +18,7 @@ use Rattle.register_core.specs.declared.register_fault.RegisterFault.{RegisterFa
 use Rattle.rate_tool.specs.Laws.{with_one_worker, asked_for, IsSettled, IsSettledReply, CommandHasOneReply, WordsHaveOneStatus}
 use Rattle.rate_tool.specs.Lines.{accepted_text, summary_text}
 use Rattle.rate_tool.specs.Reply.{limit, refusal_of, IsPrinted, IsPrinting, IsAcceptance, IsSummary, IsReplyTo, IsReplyToSource, keeping, IsRunReply, IsReply}
-use Rattle.rate_tool.specs.Run.{status_of, IsAnswered, IsStatusFor, IsDueStatus}
+use Rattle.rate_tool.specs.Run.{status_of, IsAnswered, IsStatusFor, IsDue}
 use Rattle.rate_tool.specs.Words.{command_of}
 use Rattle.rate_tool.specs.declared.words.Command.{Command}
 use Rattle.rate_tool.specs.declared.words.Command.TheVariants.{Derive, Check, Store, Show, Listing, Run, Demo}

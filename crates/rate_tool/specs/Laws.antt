@@ -3,7 +3,7 @@ use Rattle.std.specs.Prelude.{◌≡◌, ⊤, List, ℕ, Option, option_map, Res
 use Rattle.register_core.specs.Register.{Register}
 use Rattle.rate_tool.specs.Words.{command_of}
 use Rattle.rate_tool.specs.Reply.{IsReply}
-use Rattle.rate_tool.specs.Run.{IsDueStatus}
+use Rattle.rate_tool.specs.Run.{IsDue}
 use Rattle.rate_tool.specs.declared.words.Command.{Command}
 use Rattle.rate_tool.specs.declared.words.Command.TheVariants.{Derive, Run}
 use Rattle.rate_tool.specs.declared.status.Status.{Status}
@@ -38,4 +38,4 @@ CommandHasOneReply =
 abbrev pub WordsHaveOneStatus : Type 0
 WordsHaveOneStatus =
     (words others : List (List ℕ)) (register : Register) (bytes : List ℕ) (first second : Status) (next after : Register) → asked_for words ≡ asked_for others
-    → IsSettled first → IsSettled second → IsDueStatus words register bytes first next → IsDueStatus others register bytes second after → (first ≡ second) × (next ≡ after)
+    → IsSettled first → IsSettled second → IsDue words register bytes first next → IsDue others register bytes second after → (first ≡ second) × (next ≡ after)
