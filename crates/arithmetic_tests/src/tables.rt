@@ -7,6 +7,7 @@ pub fn number(rt: &impl Abort, digits: &str) -> i128 {
     digits.parse::<i128>().ok().expect(rt, "a number")
 }
 
+/// The small number that a word writes.
 pub fn small(rt: &impl Abort, digits: &str) -> u32 {
     digits.parse::<u32>().ok().expect(rt, "a number")
 }

@@ -4,4 +4,6 @@
 #[cfg(test)]
 mod demo;
 #[cfg(test)]
+mod symmetric;
+#[cfg(test)]
 mod tensors;

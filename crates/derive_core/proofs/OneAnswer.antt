@@ -1,5 +1,5 @@
 -- A file has one derivation and one check.
-use Rattle.std.proofs.Common.{◌≡◌, ◌⊎◌, ℕ, ◌<◌, ◌≤◌, List, [], ◌∷◌, slice_get, Some, Result, Ok, Err, refl, sym, ap, ap₂, subst, ◌∙◌, inl, inr, arith}
+use Rattle.std.proofs.Common.{◌≡◌, ◌⊎◌, ℕ, ◌<◌, List, [], ◌∷◌, slice_get, Some, Result, Ok, Err, refl, sym, ap, subst, ◌∙◌, inl, inr, arith}
 use Rattle.model_core.specs.declared.fault.ReadFault.{ReadFault}
 use Rattle.model_core.specs.declared.model.Model.{Model}
 use Rattle.model_core.specs.Anomaly.{Trace, anomalies}
@@ -11,9 +11,9 @@ use Rattle.anomaly_check.specs.declared.anomaly.Anomaly.{Anomaly}
 use Rattle.gauge_check.specs.Faults.{fault_of}
 use Rattle.gauge_check.specs.declared.fault.TermFault.{TermFault}
 use Rattle.gauge_check.specs.declared.fault.TermFault.TheVariants.{Dependent}
-use Rattle.derive_core.specs.Blocks.{IsDependentAt, NoneIsDependent, IsFirstDependent}
-use Rattle.derive_core.specs.Derivation.{IsSound, IsAnomalous, IsRefused, Stands, IsRefusal, betas_of, AreBetas, AreDerived, IsChecked, IsDerivation, IsCheck}
-use Rattle.derive_core.specs.TermFaults.{failing_term, IsDependentFault, FailsFirst, FailAfter, DependsFirst, IsFirstFault, HaveNoFault}
+use Rattle.derive_core.specs.Blocks.{IsDependentAt, IsFirstDependent}
+use Rattle.derive_core.specs.Derivation.{IsSound, IsRefused, Stands, IsRefusal, betas_of, AreDerived, IsChecked, IsDerivation, IsCheck}
+use Rattle.derive_core.specs.TermFaults.{IsDependentFault, FailsFirst, FailAfter, DependsFirst, IsFirstFault, HaveNoFault}
 use Rattle.derive_core.specs.declared.betas.Betas.{Betas}
 use Rattle.derive_core.specs.declared.betas.Checked.{Checked}
 use Rattle.derive_core.specs.declared.fault.DeriveFault.{DeriveFault}

@@ -1,6 +1,6 @@
 -- What is told of a model is unique.
-use Rattle.std.proofs.Common.{◌≡◌, ℕ, List, [], ◌∷◌, length, get_or, Ordering, Less, Equal, Greater, refl, sym, ap, ap₂, subst, ◌∙◌, inl, inr, arith}
-use Rattle.std.specs.Prelude.{◌<◌, suc, zero}
+use Rattle.std.proofs.Common.{◌≡◌, List, [], ◌∷◌, Less, refl, sym, ap, ap₂, subst, ◌∙◌, inl, inr, arith}
+use Rattle.std.specs.Prelude.{suc}
 use Rattle.std.specs.List.{All}
 use Rattle.std.specs.Cmp.{tied_itself}
 use Rattle.model_core.specs.declared.model.Model.{Model}

@@ -1,5 +1,5 @@
 //! Lists of items: small types over a vector, which contracts see as lists.
-ghost use Rattle.std.specs.Prelude.{◌≡◌, ◌==◌, ◌↔◌, ◌<◌, ℕ, [], ◌∷◌, ◌++◌, length, Some, OnOk, OnErr, IsTrue, slice_get};
+ghost use Rattle.std.specs.Prelude.{◌≡◌, ◌==◌, ◌↔◌, ◌<◌, [], ◌∷◌, ◌++◌, length, Some, OnOk, OnErr, IsTrue, slice_get};
 ghost use Rattle.std.specs.List.{list_any};
 
 use std::alloc::{AllocError, Global};

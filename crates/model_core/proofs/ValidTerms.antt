@@ -1,5 +1,5 @@
 -- What the terms of a valid model meet.
-use Rattle.std.proofs.Common.{◌≡◌, ◌≤◌, ◌<◌, ℕ, true, List, length, get_or, arith}
+use Rattle.std.proofs.Common.{◌≡◌, ◌≤◌, true, length, arith}
 use Rattle.std.specs.Prelude.{nat_le, sum_by}
 use Rattle.std.specs.List.{list_all}
 use Rattle.std.proofs.lemmas.Bool.Decides.{nat_tests}
@@ -7,7 +7,7 @@ use Rattle.model_core.specs.declared.model.Model.{Model}
 use Rattle.model_core.specs.declared.term.Term.{Term}
 use Rattle.model_core.specs.Groups.{is_between}
 use Rattle.model_core.specs.Content.{symbol_count}
-use Rattle.model_core.specs.TermRules.{has_monomials, has_shape, has_one_content, has_good_monomials, has_good_coupling, has_small_sizes, is_term, has_few_symbols, are_terms}
+use Rattle.model_core.specs.TermRules.{has_monomials, has_shape, has_one_content, has_good_monomials, has_good_coupling, has_small_sizes, is_term, has_few_symbols}
 use Rattle.model_core.specs.Valid.{IsValid}
 use Rattle.model_core.proofs.ValidLaws.{both, between, terms_meet}
 

@@ -12,7 +12,7 @@ use Rattle.model_core.specs.declared.model.Model.{Model}
 use Rattle.model_core.specs.declared.generator.Generator.{Generator}
 use Rattle.model_core.specs.Component.{Component, are_copies}
 use Rattle.model_core.specs.Scalar.{Coordinate}
-use Rattle.model_core.specs.Scalar.Coordinate.{Of, Dummy}
+use Rattle.model_core.specs.Scalar.Coordinate.{Of}
 use Rattle.model_core.specs.Groups.{is_abelian}
 
 -- ---- on slots

@@ -1,7 +1,7 @@
 //! The blocks in which the symbols of a term's coupling stand, and how many directions these have.
-ghost use Rattle.std.specs.Prelude.{◌≡◌, ◌≤◌, ◌-◌, ◌++◌, suc, true, length, map, IfOk, sum_by};
+ghost use Rattle.std.specs.Prelude.{◌≡◌, ◌≤◌, ◌-◌, ◌++◌, suc, true, length, IfOk, sum_by};
 ghost use Rattle.std.specs.List.{filter, list_all};
-ghost use Rattle.model_core.specs.Content.{block_at, first_column, columns_at, rows_of, symbols_at, symbol_count, is_mirrored, row_is_mirrored, has_mirrored_blocks, directions_of, symbol_block, row_blocks, term_blocks, directions_in, has_small_directions, block_directions, is_few, have_few_directions, first_uses};
+ghost use Rattle.model_core.specs.Content.{block_at, first_column, rows_of, symbols_at, symbol_count, is_mirrored, row_is_mirrored, has_mirrored_blocks, directions_of, symbol_block, row_blocks, term_blocks, directions_in, has_small_directions, block_directions, is_few, have_few_directions, first_uses};
 ghost use Rattle.model_core.specs.TermRules.{has_small_sizes};
 ghost use Rattle.model_core.specs.TermWalk.{is_overfull, first_after, first_block};
 

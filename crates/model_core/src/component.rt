@@ -6,7 +6,7 @@ ghost use Rattle.model_core.specs.Scalar.{coordinates_of, scalar_coordinates, sw
 ghost use Rattle.model_core.specs.Leg.{printed_generation, leg_of, scalar_leg_of, fermion_legs, scalar_legs};
 ghost use Rattle.model_core.specs.Place.{tuple_at, are_pairs};
 ghost use Rattle.model_core.specs.Groups.{is_between};
-ghost use Rattle.model_core.specs.Valid.{is_group, is_field, are_groups, are_fields, is_real_rep, is_scalar, are_scalars, IsValid};
+ghost use Rattle.model_core.specs.Valid.{is_group, are_groups, are_fields, is_real_rep, is_scalar, are_scalars, IsValid};
 
 use crate::field::Field;
 use crate::group::Group;

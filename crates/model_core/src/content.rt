@@ -1,11 +1,10 @@
 //! The fields of a monomial, and contents: the fields of a coupling's entry.
-ghost use Rattle.std.specs.Prelude.{◌≡◌, ◌==◌, ◌&&◌, ℕ, List, length, map, IfOk};
+ghost use Rattle.std.specs.Prelude.{◌≡◌, ◌==◌, ◌&&◌, IfOk};
 ghost use Rattle.std.specs.Ordering.{};
 ghost use Rattle.std.specs.List.{list_all, count_by, prefix_len};
 ghost use Rattle.model_core.specs.Groups.{is_between};
-ghost use Rattle.model_core.specs.Component.{same_side};
 ghost use Rattle.model_core.specs.Factors.{field_use, uses};
-ghost use Rattle.model_core.specs.Content.{is_fermionic, is_fermion, kind_of, may_couple, same_kind, same_generation, same_use, equally_often, same_uses, first_uses, has_content, kind_cmp, token_cmp, is_before, inserted, generation_at, token_at, content_at, is_real, is_self_conjugate, conjugate_token, conjugate_content, content_cmp, first_of_two, block_of, same_block, sorted};
+ghost use Rattle.model_core.specs.Content.{is_fermionic, is_fermion, kind_of, may_couple, same_kind, same_generation, same_use, equally_often, same_uses, first_uses, has_content, kind_cmp, token_cmp, is_before, inserted, generation_at, token_at, content_at, is_self_conjugate, conjugate_token, conjugate_content, content_cmp, first_of_two, block_of, same_block};
 ghost use Rattle.model_core.specs.BlockSide.{side_of};
 
 use crate::model::Model;

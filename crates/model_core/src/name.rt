@@ -1,5 +1,5 @@
 //! Names and the texts that stand for them in LaTeX.
-ghost use Rattle.std.specs.Prelude.{◌≡◌, ℕ, ◌≤◌, true, false, List, take, length, MatchResult};
+ghost use Rattle.std.specs.Prelude.{◌≡◌, ℕ, ◌≤◌, true, false, List, length, MatchResult};
 ghost use Rattle.std.specs.List.{list_all};
 ghost use Rattle.model_core.specs.Name.{is_name, is_word, is_reserved, is_word_byte, is_latex, is_latex_byte};
 

@@ -3,35 +3,29 @@ use Rattle.std.proofs.Common.{◌≡◌, ℕ, suc, Bool, true, List, [], ◌∷�
 use Rattle.std.specs.Prelude.{◌&&◌, ◌==◌}
 use Rattle.std.specs.List.{list_all, flat_map}
 use Rattle.std.proofs.lemmas.List.Folds.{list_all-map}
-use Rattle.toml.specs.Data.{Data, Members, no_members, get_member}
+use Rattle.toml.specs.Data.{Data, Members, get_member}
 use Rattle.frac128.specs.Rational.{zero_ℚ}
 use Rattle.model_core.specs.declared.group.Group.{Group}
 use Rattle.model_core.specs.declared.field.Field.{Field}
-use Rattle.model_core.specs.declared.table.Entry.{Entry}
 use Rattle.model_core.specs.declared.table.Table.{Table}
-use Rattle.model_core.specs.declared.term.Monomial.{Monomial}
 use Rattle.model_core.specs.declared.term.Term.{Term}
-use Rattle.model_core.specs.declared.content.SymbolBlock.{SymbolBlock}
 use Rattle.model_core.specs.declared.model.Model.{Model}
 use Rattle.model_core.specs.declared.fault.FaultPlace.{FaultPlace}
-use Rattle.model_core.specs.declared.fault.ReadFault.{ReadFault}
-use Rattle.model_core.specs.declared.fault.ReadKind.TheVariants.{BadGroup, BadNumber}
+use Rattle.model_core.specs.declared.fault.ReadKind.TheVariants.{BadNumber}
 use Rattle.model_core.specs.declared.fault.Part.TheVariants as part
-use Rattle.model_core.specs.Fault.{place_of, key_place, over_limit}
+use Rattle.model_core.specs.Fault.{place_of, key_place}
 use Rattle.model_core.specs.Name.{is_name, is_latex}
-use Rattle.model_core.specs.Component.{components_of}
-use Rattle.model_core.specs.Scalar.{coordinates_of}
-use Rattle.model_core.specs.Content.{term_blocks, symbol_count}
-use Rattle.model_core.specs.FileValues.{is_file_fraction, has_file_charge, is_file_entry, has_file_entries, has_file_coefficient, has_file_coefficients, has_file_fractions, group_latex, term_latex, latex_of, has_numbered_labels, are_labels_numbered}
-use Rattle.model_core.specs.Valid.{group_names, field_name, table_name, term_name, names_of, has_file_texts, is_complex, has_file_values}
-use Rattle.model_core.specs.Document.{text_of, number_of, fraction_of, members_of, elements_of, value_or, group_of, field_of, fermion_of, scalar_of, entry_of, entries_of, table_of, tables_at, groups_of, parts_of}
+use Rattle.model_core.specs.Content.{term_blocks}
+use Rattle.model_core.specs.FileValues.{is_file_fraction, has_file_charge, is_file_entry, has_file_entries, has_file_coefficient, has_file_coefficients, has_file_fractions, group_latex, term_latex, has_numbered_labels, are_labels_numbered}
+use Rattle.model_core.specs.Valid.{group_names, field_name, table_name, term_name, has_file_texts, is_complex, has_file_values}
+use Rattle.model_core.specs.Document.{text_of, number_of, fraction_of, members_of, elements_of, value_or, group_of, fermion_of, scalar_of, entry_of, entries_of, table_of, tables_at, groups_of, parts_of}
 use Rattle.model_core.specs.TermMeaning.{monomial_of, monomials_of, flavour_of, term_of}
 use Rattle.model_core.specs.TermGrammar.{sum_in}
 use Rattle.model_core.specs.Reading.{model_of}
-use Rattle.model_core.specs.Walk.{Key, required, optional, next_key, integer_places, name_places, dimension_places, latex_places, text_places, table_places, places_after, part_keys, file_keys, group_keys, fermion_keys, scalar_keys, table_keys, term_keys, group_places, fermion_places, scalar_places, tensor_places, tensor_after, fermion_after, scalar_after, groups_places, fermions_places, scalars_places, tensors_places, term_places, term_after, terms_places, part_places, part_names, bad_places}
+use Rattle.model_core.specs.Walk.{Key, required, optional, next_key, integer_places, name_places, dimension_places, latex_places, table_places, places_after, part_keys, file_keys, group_keys, fermion_keys, scalar_keys, table_keys, term_keys, group_places, fermion_places, scalar_places, tensor_places, tensor_after, fermion_after, scalar_after, groups_places, fermions_places, scalars_places, tensors_places, term_places, term_after, terms_places, part_places, part_names, bad_places}
 use Rattle.model_core.proofs.BoolLaws.{both_hold}
 use Rattle.model_reader.proofs.SlotLaws.{none_before}
-use Rattle.model_reader.proofs.KeyValues.{AreGood, each_after, each_mapped, all_appended, all_flat, keys_good, later_good, required_passes, optional_passes, always_passes, profile_is_one, name_is_one, latex_is_one, name_is_latex}
+use Rattle.model_reader.proofs.KeyValues.{each_after, each_mapped, all_appended, all_flat, keys_good, later_good, required_passes, optional_passes, always_passes, profile_is_one, name_is_one, latex_is_one, name_is_latex}
 use Rattle.model_reader.proofs.SmallFractions.{fraction_small, coefficient_small}
 use Rattle.model_reader.proofs.LabelNumbers.{monomial_numbered}
 

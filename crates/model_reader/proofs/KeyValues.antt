@@ -1,6 +1,6 @@
 -- What the values at the keys of a table without a bad place are: names, texts in LaTeX, the profile.
-use Rattle.std.proofs.Common.{◌≡◌, ℕ, suc, ◌≤◌, Bool, true, false, cond, List, [], ◌∷◌, ◌++◌, map, length, Option, Some, None, ℤ, pos, negsuc, refl, sym, ap, ◌∙◌, arith}
-use Rattle.std.specs.Prelude.{◌&&◌, ◌||◌, ◌==◌, not, nat_le, is_some}
+use Rattle.std.proofs.Common.{◌≡◌, ℕ, suc, ◌≤◌, Bool, true, false, cond, List, [], ◌∷◌, ◌++◌, map, length, Option, Some, None, pos, negsuc, refl, ap, ◌∙◌, arith}
+use Rattle.std.specs.Prelude.{◌&&◌, ◌||◌, ◌==◌, not, nat_le}
 use Rattle.std.specs.List.{list_all, list_any, flat_map}
 use Rattle.std.specs.Char.{is_ascii_alphabetic, is_ascii_alphanumeric}
 use Rattle.std.specs.Int.{is_in_range}
@@ -11,8 +11,7 @@ use Rattle.std.proofs.lemmas.List.Folds.{list_all-append}
 use Rattle.toml.specs.Data.{Data, string, integer, float, boolean, datetime, array, table, Members, get_member}
 use Rattle.model_core.specs.declared.fault.FaultPlace.{FaultPlace}
 use Rattle.model_core.specs.declared.fault.ReadFault.{ReadFault}
-use Rattle.model_core.specs.declared.fault.ReadKind.{ReadKind}
-use Rattle.model_core.specs.declared.fault.ReadKind.TheVariants.{MissingKey, BadName, BadNumber, RepeatedName, WrongType}
+use Rattle.model_core.specs.declared.fault.ReadKind.TheVariants.{BadName, BadNumber, RepeatedName}
 use Rattle.model_core.specs.Fault.{fault, bad_where, key_place}
 use Rattle.model_core.specs.Groups.{is_between}
 use Rattle.model_core.specs.Name.{is_word_byte, is_word, is_reserved, is_name, is_latex_byte, is_latex}

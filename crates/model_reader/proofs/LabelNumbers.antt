@@ -1,6 +1,6 @@
 -- The labels of a monomial are numbered by their first places.
-use Rattle.std.proofs.Common.{◌≡◌, ℕ, suc, ◌+◌, ◌<◌, Bool, true, false, cond, List, [], ◌∷◌, ◌++◌, map, length, Option, Some, None, refl, sym, ap, ap₂, subst, ◌∙◌, arith}
-use Rattle.std.specs.Prelude.{◌&&◌, ◌||◌, ◌==◌, nat_le, nat_lt, position, unwrap_or, is_some, if◌then◌else◌}
+use Rattle.std.proofs.Common.{◌≡◌, ℕ, suc, ◌+◌, ◌<◌, Bool, true, false, List, [], ◌∷◌, ◌++◌, map, length, Option, Some, None, refl, sym, ap, ap₂, subst, ◌∙◌, arith}
+use Rattle.std.specs.Prelude.{◌||◌, ◌==◌, nat_le, nat_lt, position, unwrap_or, is_some, if◌then◌else◌}
 use Rattle.std.specs.List.{flat_map, list_any, position_or_len}
 use Rattle.std.proofs.lemmas.List.{length-append, append_assoc, append-nil, map-append}
 use Rattle.std.proofs.lemmas.Bool.Decides.{nat_tests}
@@ -12,7 +12,6 @@ use Rattle.model_core.specs.declared.sum.WrittenMonomial.{WrittenMonomial}
 use Rattle.model_core.specs.declared.referent.Referent.{Referent}
 use Rattle.model_core.specs.declared.referent.Referent.TheVariants as referent
 use Rattle.model_core.specs.declared.term.Generation.{Generation}
-use Rattle.model_core.specs.TermText.{bytes_at}
 use Rattle.model_core.specs.Factors.{labels_of, all_labels}
 use Rattle.model_core.specs.FileValues.{are_numbered, has_numbered_labels}
 use Rattle.model_core.specs.TermMeaning.{same_text, first_labels, labels_in, written_labels, labels_of_monomial, label_number, label_numbers, factor_named, factor_of, referent_at, generation_in, monomial_of}

@@ -1,9 +1,8 @@
 -- The fractions that a file writes have small numbers in lowest terms too.
-use Rattle.std.proofs.Common.{◌≡◌, ℕ, zero, suc, ◌≤◌, ◌/◌, Bool, true, false, cond, List, [], Option, Some, None, ℤ, pos, refl, ap, subst, ◌∙◌, arith}
+use Rattle.std.proofs.Common.{◌≡◌, ℕ, ◌≤◌, ◌/◌, Bool, true, false, cond, List, Option, Some, None, ℤ, pos, refl, ap, subst, ◌∙◌, arith}
 use Rattle.std.specs.Prelude.{◌&&◌, ◌≢◌, nat_le, unsigned_abs, unwrap_or, option_map, option_and_then}
 use Rattle.std.specs.Str.Parse.{digits_value, starts_with_minus}
 use Rattle.std.proofs.lemmas.Bool.{le-leb}
-use Rattle.std.proofs.lemmas.Bool.Decides.{nat_tests}
 use native.Mathlib.Nat.{div-le_self}
 use Rattle.toml.specs.Data.{Data, string, integer, float, boolean, datetime, array, table}
 use Rattle.frac128.specs.Rational.{ℚ, whole, zero_ℚ, neg_ℚ, ◌/ℚ◌}

@@ -1,5 +1,5 @@
 //! The entries of a table.
-ghost use Rattle.std.specs.Prelude.{◌≡◌, ◌≤◌, IfOk, [], true, false, not, length, map, option_map, codes};
+ghost use Rattle.std.specs.Prelude.{◌≡◌, IfOk, [], true, false, not, length, map};
 ghost use Rattle.std.specs.List.{list_all, list_any};
 ghost use Rattle.std.specs.Str.{bytes_eq};
 ghost use Rattle.toml.specs.View.{view};

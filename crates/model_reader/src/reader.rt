@@ -1,15 +1,14 @@
 //! From the bytes of a file to its model.
-ghost use Rattle.std.specs.Prelude.{◌≡◌, ◌&&◌, ◌++◌, ◌≤◌, [], Some, IfOk, length, map, true, codes};
+ghost use Rattle.std.specs.Prelude.{◌≡◌, ◌&&◌, ◌++◌, ◌≤◌, [], IfOk, length, map, true, codes};
 ghost use Rattle.std.specs.List.{flat_map};
-ghost use Rattle.toml.specs.Data.{get_member};
-ghost use Rattle.toml.specs.View.{view, table_view};
+ghost use Rattle.toml.specs.View.{table_view};
 ghost use Rattle.model_core.specs.Component.{components_of};
 ghost use Rattle.model_core.specs.Scalar.{coordinates_of};
-ghost use Rattle.model_core.specs.Valid.{IsValid, has_valid_names, has_valid_parts, has_few_components, are_groups, are_fields, are_scalars, are_tables, are_distinct, field_name};
-ghost use Rattle.model_core.specs.Document.{number_of, text_of, tables_at, group_of, fermion_of, scalar_of};
+ghost use Rattle.model_core.specs.Valid.{IsValid, has_valid_names, has_valid_parts, has_few_components, are_groups, are_fields, are_scalars, are_distinct, field_name};
+ghost use Rattle.model_core.specs.Document.{tables_at, fermion_of, scalar_of};
 ghost use Rattle.model_core.specs.TermRules.{are_terms};
 ghost use Rattle.model_core.specs.Fault.{key_place};
-ghost use Rattle.model_core.specs.Walk.{key_places, value_places, file_keys, part_keys, integer_places, name_places, fermions_places, scalars_places, part_places, part_names, bad_places};
+ghost use Rattle.model_core.specs.Walk.{key_places, value_places, file_keys, part_keys, fermions_places, scalars_places, part_places, part_names, bad_places};
 ghost use Rattle.model_core.specs.Reading.{reading, model_of};
 ghost use Rattle.model_reader.specs.Gives.{Gives};
 ghost use Rattle.model_reader.specs.Parts.{document_or_fault, HasHead, part_lists, ArePartsFew, model_with, places_of, whole_places, whole_model};

@@ -1,12 +1,12 @@
 //! Representations.
-ghost use Rattle.std.specs.Prelude.{◌≡◌, IfOk, IfSome, true, is_some, ◌&&◌, codes, map, option_and_then};
+ghost use Rattle.std.specs.Prelude.{◌≡◌, IfOk, true, is_some, ◌&&◌, codes};
 ghost use Rattle.toml.specs.Data.{get_member, no_members};
 ghost use Rattle.toml.specs.Data as toml_data;
 ghost use Rattle.toml.specs.View.{view, table_view};
 ghost use Rattle.su_reps.specs.declared.rep.Rep.TheVariants.{Singlet};
 ghost use Rattle.model_core.specs.Valid.{are_reps};
 ghost use Rattle.model_core.specs.Document.{text_of, members_of, rep_named, rep_of, rep_under, reps_of, value_or};
-ghost use Rattle.model_core.specs.Walk.{is_text, are_texts, names_special, are_reps_named, reps_places, found_places};
+ghost use Rattle.model_core.specs.Walk.{are_texts, names_special, are_reps_named, reps_places, found_places};
 ghost use Rattle.model_reader.specs.Walked.{Walked, Passes};
 
 use crate::error::{ReadError, refused};

@@ -2,7 +2,7 @@
 ghost use Rattle.std.specs.Prelude.{◌≡◌, ◌≤◌, IfOk, [], length};
 ghost use Rattle.toml.specs.Data.{get_member};
 ghost use Rattle.toml.specs.Data as toml_data;
-ghost use Rattle.toml.specs.View.{view, table_view, array_view};
+ghost use Rattle.toml.specs.View.{table_view, array_view};
 ghost use Rattle.model_core.specs.Document.{tables_among, tables_of, value_or};
 ghost use Rattle.model_core.specs.Fault.{place_of, over_limit};
 ghost use Rattle.model_core.specs.Walk.{are_tables, tables_places, found_places};

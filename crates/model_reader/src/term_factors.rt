@@ -1,9 +1,8 @@
 //! The factors and the monomials of a term's text.
-ghost use Rattle.std.specs.Prelude.{◌≡◌, ◌≤◌, IfOk, true, length, map, Some};
-ghost use Rattle.std.specs.List.{list_all, flat_map, count_by};
-ghost use Rattle.model_core.specs.Factors.{is_factor, is_tensor};
+ghost use Rattle.std.specs.Prelude.{◌≡◌, ◌≤◌, true, length, map, Some};
+ghost use Rattle.std.specs.List.{list_all, flat_map};
 ghost use Rattle.model_core.specs.TermMeaning.{generation_in, written_labels, factor_of, monomial_of};
-ghost use Rattle.model_core.specs.TermWalk.{names_tensor, referent_places, factor_places, monomial_places, monomials_places};
+ghost use Rattle.model_core.specs.TermWalk.{referent_places, factor_places, monomial_places, monomials_places};
 ghost use Rattle.model_core.specs.Valid.{has_valid_parts};
 ghost use Rattle.model_reader.specs.Parsing.{has_labels_within};
 ghost use Rattle.model_reader.specs.Tables.{texts};

@@ -1,11 +1,11 @@
 //! The sum that a term's text is.
-ghost use Rattle.std.specs.Prelude.{◌≡◌, ◌∷◌, [], ◌++◌, length, Err, MatchOption, true, false, IfOk, nat_lt};
+ghost use Rattle.std.specs.Prelude.{◌≡◌, ◌∷◌, [], length, Err, MatchOption, true, false, IfOk, nat_lt};
 ghost use Rattle.std.specs.List.{flat_map};
 ghost use Rattle.model_core.specs.declared.sum.Token.TheVariants.{Word, Digits, Tilde, Open, Mark};
 ghost use Rattle.model_core.specs.TermText.{denominator_tokens, literal_tokens, tilde_tokens, index_token, bracket_tokens, listed_labels, label_tokens, factor_tokens, monomial_tokens, first_sign, sign, spelling, is_whole, has_factors};
 ghost use Rattle.model_reader.specs.declared.term_text.Stop.TheVariants.{Left, NoMemory};
 ghost use Rattle.model_core.specs.TermGrammar.{Start, AfterSign, AfterNumerator, AfterLiteral, AfterWord, AfterTilde, AfterOpen, AfterIndex, AfterBracket, AfterLeft, AfterLabel, AfterLabels, AfterFactor, AfterFactors, AfterMonomials};
-ghost use Rattle.model_reader.specs.Parsing.{begins_mark, begins_word, begins_digits, begins_tilde, begins_open, begins_sign, Reads, Parsed, IsRead, ParsedAs, HasFewLabels};
+ghost use Rattle.model_reader.specs.Parsing.{begins_mark, begins_word, begins_digits, begins_open, begins_sign, Reads, Parsed, IsRead, ParsedAs, HasFewLabels};
 
 use crate::term_tokens::{start_after, tokens_of};
 use model_core::{

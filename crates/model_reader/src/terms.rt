@@ -1,10 +1,10 @@
 //! The terms of a file.
-ghost use Rattle.std.specs.Prelude.{◌≡◌, ◌+◌, ◌*◌, ◌≤◌, nat_le, ◌∷◌, ◌++◌, [], Some, map, length, sum_by, IfOk, true};
+ghost use Rattle.std.specs.Prelude.{◌≡◌, ◌+◌, ◌≤◌, nat_le, ◌∷◌, ◌++◌, [], Some, map, length, IfOk, true};
 ghost use Rattle.std.specs.List.{flat_map, list_all};
 ghost use Rattle.toml.specs.View.{view, table_view};
 ghost use Rattle.model_core.specs.Valid.{has_valid_parts, are_distinct, term_name};
 ghost use Rattle.model_core.specs.Document.{text_of};
-ghost use Rattle.model_core.specs.Content.{symbol_count, term_blocks, have_few_directions};
+ghost use Rattle.model_core.specs.Content.{term_blocks, have_few_directions};
 ghost use Rattle.model_core.specs.TermMeaning.{monomial_of, monomials_of, flavour_of, term_of};
 ghost use Rattle.model_core.specs.TermRules.{has_small_sizes, is_term, are_terms};
 ghost use Rattle.model_core.specs.TermWalk.{joins_places, flavour_places, contents_places, coupling_places, block_places, sum_places, term_text_places};

@@ -1,7 +1,6 @@
 //! The values at keys, each in its form.
 ghost use Rattle.std.specs.Prelude.{◌≡◌, ◌∷◌, [], ◌++◌, true, false, ◌&&◌, ◌||◌, not, ◌==◌, IfOk, codes};
-ghost use Rattle.std.specs.List.{list_any, list_all};
-ghost use Rattle.std.specs.Str.{bytes_eq};
+ghost use Rattle.std.specs.List.{list_any};
 ghost use Rattle.toml.specs.Data.{integer, get_member};
 ghost use Rattle.toml.specs.View.{view, table_view};
 ghost use Rattle.frac128.specs.Rational.{eq_ℚ, zero_ℚ};

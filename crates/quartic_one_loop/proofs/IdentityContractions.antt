@@ -9,7 +9,7 @@ use Rattle.exact_algebra.specs.Ring.{zero_mul}
 use Rattle.exact_algebra.specs.Sums.{sum-map, sum-by_place, below, below-same, below-none}
 use Rattle.frac128.specs.Rational.{one_ℚ}
 use Rattle.beta_poly.specs.Exponents.{AllWithin}
-use Rattle.beta_poly.specs.Polynomial.{Polynomial, poly_ring, mul_poly, scale_poly}
+use Rattle.beta_poly.specs.Polynomial.{poly_ring, mul_poly, scale_poly}
 use Rattle.beta_poly.proofs.Multiples.{scale_one}
 use Rattle.beta_poly.proofs.ExponentLaws.{AllWithin-mul, AllWithin-scale}
 use Rattle.sparse_tensor.specs.declared.links.Link.{Link}

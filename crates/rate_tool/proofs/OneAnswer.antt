@@ -1,5 +1,5 @@
 -- A command has one reply, and words one status.
-use Rattle.std.proofs.Common.{◌≡◌, ◌⊎◌, ℕ, ◌<◌, ◌≤◌, List, length, Option, None, Some, Result, Ok, Err, refl, sym, ap, subst, ◌∙◌, inl, inr, arith}
+use Rattle.std.proofs.Common.{◌≡◌, ℕ, ◌<◌, ◌≤◌, List, length, Option, None, Some, Result, Ok, Err, refl, sym, ap, subst, ◌∙◌, inl, inr, arith}
 use Rattle.std.specs.Prelude.{option_map}
 use Rattle.model_core.specs.declared.format.Format.{Format}
 use Rattle.derive_core.specs.Derivation.{IsDerivation, IsCheck}
@@ -15,10 +15,10 @@ use Rattle.register_core.specs.Machine as machine
 use Rattle.register_core.specs.declared.register.RunState.{RunState}
 use Rattle.register_core.specs.declared.register.RunState.TheVariants.{Kept, Fresh}
 use Rattle.register_core.specs.declared.register_fault.RegisterFault.{RegisterFault}
-use Rattle.rate_tool.specs.Laws.{with_one_worker, asked_for, IsSettled, IsSettledReply, CommandHasOneReply, WordsHaveOneStatus}
+use Rattle.rate_tool.specs.Laws.{with_one_worker, IsSettled, IsSettledReply, CommandHasOneReply, WordsHaveOneStatus}
 use Rattle.rate_tool.specs.Lines.{accepted_text, summary_text}
 use Rattle.rate_tool.specs.Reply.{limit, refusal_of, IsPrinted, IsPrinting, IsAcceptance, IsSummary, IsReplyTo, IsReplyToSource, keeping, IsRunReply, IsReply}
-use Rattle.rate_tool.specs.Run.{status_of, IsAnswered, IsStatusFor, IsDue}
+use Rattle.rate_tool.specs.Run.{status_of, IsAnswered, IsStatusFor}
 use Rattle.rate_tool.specs.Words.{command_of}
 use Rattle.rate_tool.specs.declared.words.Command.{Command}
 use Rattle.rate_tool.specs.declared.words.Command.TheVariants.{Derive, Check, Store, Show, Listing, Run, Demo}

@@ -1,5 +1,5 @@
 //! The answers of one line.
-ghost use Rattle.std.specs.Prelude.{◌≡◌, ◌≤◌, ◌++◌, IfOk, OnOk, codes, decimal};
+ghost use Rattle.std.specs.Prelude.{◌≡◌, ◌≤◌, ◌++◌, IfOk, OnOk, decimal};
 ghost use Rattle.rate_tool.specs.Lines.{accepted_text, count_text, counts_text, stored_text, summary_text, share_of, count_of, line_monomials, monomial_count};
 
 use demo_models::generations;

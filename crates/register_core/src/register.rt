@@ -1,5 +1,5 @@
 //! The calls of the register, over any keeper.
-ghost use Rattle.std.specs.Prelude.{◌≡◌, ◌≤◌, ℕ, Ok, IsSome, OnOk, OnErr};
+ghost use Rattle.std.specs.Prelude.{Ok, IsSome, OnOk, OnErr};
 ghost use Rattle.register_core.specs.Causes.{HasReason, Stays, Changes};
 ghost use Rattle.register_core.specs.Register.{HasLoops, version_of, with_run};
 ghost use Rattle.register_core.specs.Machine as machine;

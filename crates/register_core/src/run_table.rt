@@ -1,5 +1,5 @@
 //! The kept outputs in memory.
-ghost use Rattle.std.specs.Prelude.{◌≡◌, ℕ, true, is_some, option_map, IfOk, OnOk, OnErr, if◌then◌else◌};
+ghost use Rattle.std.specs.Prelude.{◌≡◌, ℕ, true, is_some, IfOk, OnOk, OnErr, if◌then◌else◌};
 ghost use Rattle.std.specs.FinMap.{empty, get, insert, is_sorted};
 ghost use Rattle.register_core.specs.Register.{key_cmp, format_place};
 ghost use Rattle.register_core.specs.Table.{IsPlace};

@@ -1,11 +1,11 @@
 //! What stands for parameters, and what rows stand for.
-ghost use Rattle.std.specs.Prelude.{◌≡◌, ◌+◌, ◌++◌, pos, drop, Some, option_map, option_and_then};
+ghost use Rattle.std.specs.Prelude.{◌≡◌, ◌+◌, pos, Some};
 ghost use Rattle.sqlite_value.specs.declared.value.Value.TheVariants.{Int};
 ghost use Rattle.sqlite_value.specs.Value.{owned};
 ghost use Rattle.sqlite_value.specs.Order.{column};
 ghost use Rattle.sqlite.specs.Values.{bound};
 ghost use Rattle.register_sqlite.specs.Refusals.{Reads};
-ghost use Rattle.register_sqlite.specs.Rows.{format_word, name_values, version_values, model_values, key_values, run_values, name_of, blob_of, is_number, names_in, are_numbers, count_in, bytes_in};
+ghost use Rattle.register_sqlite.specs.Rows.{format_word, name_values, version_values, model_values, key_values, run_values, name_of, blob_of, is_number, names_in, count_in, bytes_in};
 
 use crate::refusal::Refusal;
 use frac128::ByteList;

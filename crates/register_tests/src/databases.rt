@@ -1,5 +1,4 @@
 //! Worked examples over databases in memory.
-ghost use Rattle.std.specs.Prelude.{◌≡◌};
 ghost use Rattle.register_core.specs.Register.{HasLoops};
 
 use frac128::ByteList;

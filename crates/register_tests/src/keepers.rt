@@ -1,5 +1,4 @@
 //! Worked examples of the register over keepers in memory.
-ghost use Rattle.std.specs.Prelude.{◌≡◌};
 ghost use Rattle.register_core.specs.Register.{HasLoops};
 
 use frac128::{ByteList, FailList};

@@ -4,6 +4,7 @@ use Rattle.std.specs.List.{All}
 use Rattle.std.specs.Option.{option_map}
 use Rattle.std.proofs.lemmas.Option.{slice_get_read, slice_get-map}
 use Rattle.std.proofs.Common.{refl, sym, ap, ap₂, ◌∙◌, subst, arith, inl, inr, add-one, Less}
+use Rattle.std.proofs.lemmas.List.{length-map}
 use Rattle.exact_algebra.specs.Formal.{AllKeys, Ascending}
 use Rattle.exact_algebra.specs.TensorContraction.{places_cmp, places_keys}
 use Rattle.frac128.specs.Rational.{ℚ, zero_ℚ}
@@ -91,14 +92,10 @@ rows-fused : (ds : List Direction) (keys : List (List ℕ)) → map (λ key. map
 rows-fused ds [] = refl
 rows-fused ds (k ∷ keys) = ap₂ ◌∷◌ (numbers-fused ds k) (rows-fused ds keys)
 
-pub length-map : {X Y : Type 0} (f : X → Y) (xs : List X) → length (map f xs) ≡ length xs
-length-map f [] = refl
-length-map f (x ∷ xs) = ap suc (length-map f xs)
-
 -- what the program builds is the block of the directions
 pub block-of : (ds found : List Direction) (count : ℕ) (keys : List (List ℕ)) (rows : List (List ℚ)) → found ≡ ds → count ≡ length found → keys ≡ gathered_keys [] found → rows ≡ map (λ key. map (λ d. numbers_of d key) found) keys → IsBlock (map numbers_of ds) (block_rows count keys rows)
 block-of ds found count keys rows f c k r = record {
-  many = c ∙ ap length f ∙ sym (length-map numbers_of ds);
+  many = c ∙ ap length f ∙ sym (length-map ds numbers_of);
   rows_are = r ∙ ap (λ fs. map (λ key. map (λ d. numbers_of d key) fs) keys) f ∙ rows-fused ds keys;
   covers = subst (λ ks. (key : List ℕ) → IsIn key ks ⊎ AreZero (numbers_at (map numbers_of ds) key)) (sym (k ∙ ap (gathered_keys []) f)) (λ key. covers-gathered key [] ds);
   ascend = subst Ascend (sym k) (ascend-gathered [] found tt);

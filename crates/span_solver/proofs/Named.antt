@@ -4,7 +4,7 @@ use Rattle.std.specs.List.{filter}
 use Rattle.std.specs.Option.{option_map}
 use Rattle.std.proofs.Common.{refl, sym, ap, ap₂, ◌∙◌, subst, arith, cond, add-one}
 use Rattle.std.proofs.lemmas.Option.{slice_get_read, slice_get-map}
-use Rattle.std.proofs.lemmas.List.{take_all}
+use Rattle.std.proofs.lemmas.List.{take_all, length-map}
 use Rattle.sparse_tensor.specs.Refusals.{IsTensorRefusal}
 use Rattle.sparse_tensor.specs.declared.fault.TensorFault.{TensorFault}
 use Rattle.sparse_tensor.specs.declared.fault.TensorFault.TheVariants.{Overflow as TensorOverflow, NoMemory as TensorNoMemory}
@@ -126,15 +126,11 @@ independent_of directions name count keys rows b h =
 pub lengths-block : (ds : List Numbers) (count : ℕ) (keys : List (List ℕ)) (rows : List (List ℚ)) → IsBlock ds (block_rows count keys rows) → HaveLength count rows
 lengths-block ds count keys rows b = subst (λ n. HaveLength n rows) (sym b.many) (subst (HaveLength (length ds)) (sym b.rows_are) (lengths-of ds keys))
 
-length-map : {X Y : Type 0} (f : X → Y) (xs : List X) → length (map f xs) ≡ length xs
-length-map f [] = refl
-length-map f (x ∷ xs) = ap suc (length-map f xs)
-
 pub as_many : (ds : List Numbers) (count : ℕ) (keys : List (List ℕ)) (rows : List (List ℚ)) → IsBlock ds (block_rows count keys rows) → length keys ≡ length rows
-as_many ds count keys rows b = sym (length-map (numbers_at ds) keys) ∙ ap length (sym b.rows_are)
+as_many ds count keys rows b = sym (length-map keys (numbers_at ds)) ∙ ap length (sym b.rows_are)
 
 pub count-of : (directions : List Direction) (name : List Token) (count : ℕ) (keys : List (List ℕ)) (rows : List (List ℚ)) → IsBlock (block_numbers directions name) (block_rows count keys rows) → count ≡ length (block_directions directions name)
-count-of directions name count keys rows b = b.many ∙ length-map numbers_of (block_directions directions name)
+count-of directions name count keys rows b = b.many ∙ length-map (block_directions directions name) numbers_of
 
 pub span_refused : (directions : List Direction) (name : List Token) (f : TensorFault) → block_directions directions name ≢ [] → IsTensorRefusal f → IsSpanFault directions name (span_fault f)
 span_refused directions name (TensorOverflow pair) n h = (n, h)

@@ -4,6 +4,7 @@ use Rattle.std.proofs.Common.{refl, sym, ap, ◌∙◌, subst, arith, inl, inr, 
 use Rattle.std.proofs.lemmas.Cmp.{tied_itself}
 use Rattle.std.specs.Ordering.{ordering_index}
 use Rattle.std.specs.List.Sorted.{IsNonDecreasingBy}
+use Rattle.std.proofs.lemmas.List.{length-map}
 use Rattle.exact_algebra.specs.TensorContraction.{places_cmp, places_keys, places_equal}
 use Rattle.exact_algebra.specs.Formal.{Above, Ascending, Above-after, coefficient-cons, coefficient-nil}
 use Rattle.exact_algebra.specs.Ring.{zero_add}
@@ -41,13 +42,9 @@ entries-valued at [] (e ∷ rows) l = absurd (omega arith)
 entries-valued at (k ∷ keys) [] l = absurd (omega arith)
 entries-valued at (k ∷ keys) (e ∷ rows) l = ap (λ es. e ∷ es) (entries-valued at keys rows (omega arith))
 
-length-map : {X Y : Type 0} (f : X → Y) (xs : List X) → length (map f xs) ≡ length xs
-length-map f [] = refl
-length-map f (x ∷ xs) = ap suc (length-map f xs)
-
 pub lengths-of : (ds : List Numbers) (keys : List (List ℕ)) → HaveLength (length ds) (map (numbers_at ds) keys)
 lengths-of ds [] = tt
-lengths-of ds (k ∷ keys) = (length-map (λ d. d k) ds, lengths-of ds keys)
+lengths-of ds (k ∷ keys) = (length-map ds (λ d. d k), lengths-of ds keys)
 
 -- ---- the order of keys
 never_before : (key : List ℕ) → places_cmp key key ≡ Less → ⊥
@@ -150,7 +147,7 @@ all_solved ds at keys xs c l k s = record {
 pub open_at_row : (ds : List Numbers) (at : List ℕ → Polynomial) (keys : List (List ℕ)) (gs : List ℕ) (xs : List Polynomial) (m : ℕ) (end : List ℕ) → ((key : List ℕ) → IsIn key keys ⊎ AreZero (numbers_at ds key)) → Ascend keys → pivots (length ds) (map (numbers_at ds) keys) ≡ Some gs → length xs ≡ length ds → Solves polynomials xs (select gs (rows_of at ds keys)) → FailsFirst polynomials xs m (rows_of at ds keys) → slice_get keys m ≡ Some end
     → ((key : List ℕ) → places_cmp key end ≡ Less → IsKnown at keys key) → IsOpenAt ds at end
 open_at_row ds at keys gs xs m end c a p l s f e k =
-    let same = entries-valued at keys (map (numbers_at ds) keys) (sym (length-map (numbers_at ds) keys)) in
+    let same = entries-valued at keys (map (numbers_at ds) keys) (sym (length-map keys (numbers_at ds))) in
     let spanned = not_spanned polynomials (length ds) gs (rows_of at ds keys) xs m
     (subst (λ es. ArePivots (length ds) es gs) (sym same) (pivots-are (length ds) (map (numbers_at ds) keys) gs p))
     (subst (HaveLength (length ds)) (sym same) (lengths-of ds keys)) l s f in

@@ -1,7 +1,7 @@
 -- Lemmas for the scan: the rows at the pivots, the coordinates that they give, and the first row that fails.
 use Rattle.std.proofs.Common.{◌≡◌, ℕ, zero, suc, ◌+◌, ◌-◌, ◌<◌, ◌≤◌, refl, sym, ◌∙◌, ap, ap₂, subst, arith, List, [], ◌∷◌, ◌++◌, length, take, drop, get_or, Some, Bool, true, add-one, length-drop}
 use Rattle.std.specs.Prelude.{◌≢◌, map}
-use Rattle.std.proofs.lemmas.List.{get_or-drop, drop-drop, take_all}
+use Rattle.std.proofs.lemmas.List.{get_or-drop, drop-drop, take_all, length-map}
 use Rattle.std.proofs.Math.Seq.{drop-cons}
 use Rattle.exact_algebra.specs.Ring.{zero_add}
 use Rattle.exact_algebra.specs.Solver.{identity}
@@ -26,11 +26,7 @@ gaps-fit (passed k e es g gs z p) =
     (omega (arith, f.0), subst (GapsFit gs) less f.1)
 gaps-fit (found k e es j gs s p) =
     let less : length es ≡ suc (length es) - 1 = omega arith in
-    (omega arith, subst (GapsFit gs) (length-map _ es ∙ less) (gaps-fit p))
-  where
-    length-map : {X Y : Type 0} (f : X → Y) (xs : List X) → length (map f xs) ≡ length xs
-    length-map f [] = refl
-    length-map f (x ∷ xs) = ap suc (length-map f xs)
+    (omega arith, subst (GapsFit gs) (length-map es _ ∙ less) (gaps-fit p))
 
 select-head : {X : Type 0} (g : ℕ) (gs : List ℕ) (xs : List X) (r : X) → g < length xs → r ≡ get_or xs g r → select (g ∷ gs) xs ≡ r ∷ select gs (drop (suc g) xs)
 select-head g gs [] r l e = absurd (omega arith)

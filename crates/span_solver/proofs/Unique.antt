@@ -2,6 +2,7 @@
 use Rattle.std.specs.Prelude.{◌≡◌, ◌≢◌, ℕ, zero, suc, ◌<◌, ◌≤◌, Bool, true, false, List, [], ◌∷◌, ◌++◌, length, map, take, drop, slice_get, get_or, Some}
 use Rattle.std.proofs.Common.{refl, sym, ap, ap₂, ◌∙◌, arith}
 use Rattle.std.proofs.lemmas.Option.{slice_get-get_or}
+use Rattle.std.proofs.lemmas.List.{length-map}
 use Rattle.exact_algebra.specs.Canon.{coefficient-plus, same_coefficients}
 use Rattle.exact_algebra.specs.Formal.{coefficient-eval, unit_at}
 use Rattle.exact_algebra.specs.Maps.{value-mult_const}
@@ -119,10 +120,6 @@ module _ (ds : List Numbers) (free : AreIndependent ds) where
       by_last s t ih = by_test (is_zero (s.last -ℚ t.last)) s t refl ih
 
 -- ---- coordinates
-length-map : {X Y : Type 0} (f : X → Y) (xs : List X) → length (map f xs) ≡ length xs
-length-map f [] = refl
-length-map f (x ∷ xs) = ap suc (length-map f xs)
-
 same_by_coefficients : (xs ys : List Polynomial) → length xs ≡ length ys → ((m : Monomial) → map (λ x. coefficient_of x m) xs ≡ map (λ x. coefficient_of x m) ys) → xs ≡ ys
 same_by_coefficients [] [] l h = refl
 same_by_coefficients [] (y ∷ ys) l h = absurd (omega arith)
@@ -134,5 +131,5 @@ pub unique : (directions : List Numbers) (tensor : List ℕ → Polynomial) (fir
 unique directions tensor first second free a b =
     same_by_coefficients first second (a.many ∙ sym b.many) (λ m.
     same-numbers directions free (length directions) (map (λ x. coefficient_of x m) first) (map (λ x. coefficient_of x m) second)
-    (length-map (λ x. coefficient_of x m) first ∙ a.many) (length-map (λ x. coefficient_of x m) second ∙ b.many) (omega arith)
+    (length-map first (λ x. coefficient_of x m) ∙ a.many) (length-map second (λ x. coefficient_of x m) ∙ b.many) (omega arith)
     (λ key. sym (moved-at m first directions key) ∙ ap (λ p. coefficient_of p m) (a.adds key ∙ sym (b.adds key)) ∙ moved-at m second directions key))

@@ -1,5 +1,5 @@
 //! Blocks: independent directions, their numbers at each key, and the rows that tell them apart.
-ghost use Rattle.std.specs.Prelude.{◌≡◌, ◌≢◌, ◌≤◌, ◌<◌, ◌^◌, ℕ, List, [], length, map, IfOk, IfErr, Some};
+ghost use Rattle.std.specs.Prelude.{◌≡◌, ◌≢◌, ◌≤◌, ◌<◌, ◌^◌, ℕ, List, [], length, IfOk, IfErr, Some};
 ghost use Rattle.std.specs.List.{All};
 ghost use Rattle.sparse_tensor.specs.Tensor.{rank_of, entries_of};
 ghost use Rattle.sparse_tensor.specs.Refusals.{IsRefusalOf};

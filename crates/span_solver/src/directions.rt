@@ -2,7 +2,6 @@
 ghost use Rattle.std.specs.Prelude.{◌≡◌, [], length, map, IfOk};
 ghost use Rattle.beta_poly.specs.Monomial.{one_monomial};
 ghost use Rattle.sparse_tensor.specs.Tensor.{rank_of};
-ghost use Rattle.span_solver.specs.Block.{numbers_at};
 ghost use Rattle.span_solver.specs.BlockDirections.{numbers_of};
 ghost use Rattle.span_solver.specs.ChosenDirections.{gathered_keys};
 ghost use Rattle.span_solver.specs.Combine.{Each};

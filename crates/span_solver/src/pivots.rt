@@ -1,5 +1,5 @@
 //! Pivots: the first rows that tell the directions apart.
-ghost use Rattle.std.specs.Prelude.{◌≡◌, ◌<◌, ◌≤◌, length, IfOk, IfErr, IfSome, map, take, drop, MatchOption, slice_get, Some, None};
+ghost use Rattle.std.specs.Prelude.{◌≡◌, ◌<◌, length, IfOk, IfErr, IfSome, map, MatchOption, Some, None};
 ghost use Rattle.sparse_tensor.specs.Refusals.{IsTensorRefusal};
 ghost use Rattle.span_solver.specs.Combine.{Each};
 ghost use Rattle.span_solver.specs.Elimination.{leading, reduced, pivots, HaveLength, IsFirstRow};

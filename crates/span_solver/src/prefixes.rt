@@ -1,5 +1,5 @@
 //! The first direction that is dependent on earlier ones.
-ghost use Rattle.std.specs.Prelude.{◌≡◌, ◌<◌, ◌≤◌, length, IfOk, IfErr, MatchOption, map, take, is_some};
+ghost use Rattle.std.specs.Prelude.{◌≡◌, ◌<◌, ◌≤◌, length, IfOk, IfErr, MatchOption, take, is_some};
 ghost use Rattle.sparse_tensor.specs.Refusals.{IsTensorRefusal};
 ghost use Rattle.span_solver.specs.Elimination.{HaveLength, pivots};
 ghost use Rattle.span_solver.specs.RowDependence.{firsts, AreIndependent, IsFirstDependent};

@@ -1,7 +1,7 @@
 //! Rows: the numbers of the directions at a key.
-ghost use Rattle.std.specs.Prelude.{◌≡◌, ◌<◌, length, IfOk, IfErr, IfSome, map};
+ghost use Rattle.std.specs.Prelude.{◌≡◌, ◌<◌, length, IfOk, IfErr, IfSome};
 ghost use Rattle.sparse_tensor.specs.Refusals.{IsTensorRefusal};
-ghost use Rattle.span_solver.specs.Combine.{mixed, entry};
+ghost use Rattle.span_solver.specs.Combine.{mixed};
 ghost use Rattle.span_solver.specs.Elimination.{is_zero, leading, reduced};
 
 use crate::numbers::step;

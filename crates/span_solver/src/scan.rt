@@ -1,5 +1,5 @@
 //! The scan of a tensor: the coordinates that the rows at the pivots give, and the first key that they fail.
-ghost use Rattle.std.specs.Prelude.{◌≡◌, ◌<◌, ◌≢◌, ◌↔◌, ℕ, IsTrue, IsNone, length, IfOk, IfErr, IfSome, MatchOption, Some, slice_get};
+ghost use Rattle.std.specs.Prelude.{◌≡◌, ◌<◌, ◌≢◌, ◌↔◌, IsTrue, IsNone, length, IfOk, IfErr, IfSome, MatchOption, Some};
 ghost use Rattle.exact_algebra.specs.TensorContraction.{places_cmp};
 ghost use Rattle.frac128.specs.Rational.{zero_ℚ, reciprocal};
 ghost use Rattle.sparse_tensor.specs.Tensor.{rank_of, entries_of, value};

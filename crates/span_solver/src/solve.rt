@@ -1,8 +1,8 @@
 //! Coordinates, or the first key up to which there are none.
-ghost use Rattle.std.specs.Prelude.{◌≡◌, ◌<◌, ◌≢◌, List, [], length, IfOk, IfErr, Some, replicate};
+ghost use Rattle.std.specs.Prelude.{◌≡◌, ◌<◌, ◌≢◌, List, length, IfOk, IfErr, Some, replicate};
 ghost use Rattle.beta_poly.specs.Polynomial.{zero_poly};
 ghost use Rattle.frac128.specs.Rational.{zero_ℚ, reciprocal};
-ghost use Rattle.sparse_tensor.specs.Tensor.{rank_of, entries_of, value};
+ghost use Rattle.sparse_tensor.specs.Tensor.{rank_of, value};
 ghost use Rattle.sparse_tensor.specs.Refusals.{IsTensorRefusal};
 ghost use Rattle.span_solver.specs.Algebra.{polynomials};
 ghost use Rattle.span_solver.specs.Block.{Ascend, IsBlock, IsSolved, block_rows};

@@ -1,10 +1,9 @@
 //! The steps that solve as many rows as there are directions.
 ghost use Rattle.std.specs.Prelude.{◌≡◌, ◌<◌, [], ◌∷◌, suc, length, IfOk, IfErr, map};
-ghost use Rattle.frac128.specs.Rational.{zero_ℚ};
 ghost use Rattle.sparse_tensor.specs.Refusals.{IsTensorRefusal};
 ghost use Rattle.span_solver.specs.Algebra.{polynomials};
-ghost use Rattle.span_solver.specs.Combine.{combine, entry, inserted, without, scaled};
-ghost use Rattle.span_solver.specs.Elimination.{leading, reduced, HaveLength, extended};
+ghost use Rattle.span_solver.specs.Combine.{combine, entry, without, scaled};
+ghost use Rattle.span_solver.specs.Elimination.{leading, reduced, HaveLength};
 ghost use Rattle.span_solver.specs.Systems.{entries, IsRegular, reduced_row, steps, one_step, two_steps, step_back};
 
 use crate::numbers::{multiple, poly_step, step, sum, times};

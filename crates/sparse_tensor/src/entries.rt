@@ -1,5 +1,5 @@
 //! Lists of entries: put into the order of their keys, gathered, and looked up.
-ghost use Rattle.std.specs.Prelude.{◌≡◌, ◌≢◌, ℕ, List, ◌++◌, ◌∷◌, [], map, IfOk, IfErr, OnOk, IsPermutation, MatchOption};
+ghost use Rattle.std.specs.Prelude.{◌≡◌, ◌≢◌, ℕ, List, ◌++◌, map, IfOk, IfErr, OnOk, IsPermutation, MatchOption};
 ghost use Rattle.std.specs.List.Sorted.{IsSortedByKey};
 ghost use Rattle.exact_algebra.specs.TensorContraction.{places_cmp};
 ghost use Rattle.beta_poly.specs.Polynomial.{zero_poly};

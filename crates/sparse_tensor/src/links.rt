@@ -1,5 +1,5 @@
 //! Links between places.
-ghost use Rattle.std.specs.Prelude.{◌≡◌, ◌<◌, ◌==◌, ◌++◌, ◌∷◌, [], length, slice_get, Some, OnOk, OnErr};
+ghost use Rattle.std.specs.Prelude.{◌≡◌, ◌<◌, ◌++◌, ◌∷◌, [], length, slice_get, Some, OnOk, OnErr};
 ghost use Rattle.sparse_tensor.specs.Operations.{IsAfter, IsLinks};
 ghost use Rattle.sparse_tensor.specs.Collected.{links_from};
 

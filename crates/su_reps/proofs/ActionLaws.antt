@@ -6,9 +6,8 @@ use Rattle.exact_algebra.specs.Contraction.Expr.{delta as x_delta}
 use Rattle.frac128.specs.Rational.{zero_ℚ, ◌*ℚ◌}
 use Rattle.su_reps.specs.declared.rep.Rep.{Rep}
 use Rattle.su_reps.specs.declared.rep.Rep.TheVariants.{Singlet, Fund, Conj, Adjoint, Sym2, Sym2Conj, Anti2, Anti2Conj}
-use Rattle.su_reps.specs.Tuples.{AreValues}
-use Rattle.su_reps.specs.Operators.{product, P, X, over_values}
-use Rattle.su_reps.specs.Laws.{AtPairs, Commutators, Transpose, Diagonal, conjugate, partner, Conjugate, ConjugateProjector, NoTrace, pair_number, PairTrace, Traceless, TracelessAction, ProjectedAction}
+use Rattle.su_reps.specs.Operators.{P, X, over_values}
+use Rattle.su_reps.specs.Laws.{Commutators, Transpose, Diagonal, conjugate, partner, Conjugate, ConjugateProjector, NoTrace, pair_number, PairTrace, Traceless, TracelessAction, ProjectedAction}
 use Rattle.su_reps.proofs.Shapes.{x_p, x_q, x_at, x_transposed, x_product, x_trace, x_P, x_X, x_index_trace, x_doubled_index}
 use Rattle.su_reps.proofs.Solve.{at_pairs, solved, solved_pair, solved_alone, solved_number}
 

@@ -1,4 +1,4 @@
-ghost use Rattle.std.specs.Prelude.{◌≡◌, ℕ, ◌≤◌, ◌<◌, ◌*◌, ℤ, pos, unsigned_abs, List, [], ◌∷◌, length};
+ghost use Rattle.std.specs.Prelude.{◌≡◌, ◌≤◌, ◌<◌, ◌*◌, pos, unsigned_abs, [], ◌∷◌, length};
 ghost use Rattle.std.specs.Str.{bytes_eq};
 ghost use Rattle.frac128.specs.Rational.{ℚ, whole, ◌/ℚ◌};
 ghost use Rattle.su_reps.specs.Tuples.{IsTuple, AreValues, projector, action};

@@ -1,6 +1,6 @@
-ghost use Rattle.std.specs.Prelude.{◌≡◌, ℕ, ◌≤◌, ◌<◌, pos, List};
-ghost use Rattle.frac128.specs.Rational.{ℚ, whole, ◌*ℚ◌, ◌/ℚ◌};
-ghost use Rattle.su_reps.specs.Operators.{P, trace, index_trace, cubic_trace, square_sum, dimension, casimir, doubled_index, index, cubic, fraction};
+ghost use Rattle.std.specs.Prelude.{◌≡◌, ◌≤◌, ◌<◌, pos};
+ghost use Rattle.frac128.specs.Rational.{ℚ, whole, ◌/ℚ◌};
+ghost use Rattle.su_reps.specs.Operators.{P, trace, index_trace, cubic_trace, dimension, casimir, doubled_index, index, cubic, fraction};
 ghost use Rattle.su_reps.specs.Laws.{IsCasimir};
 
 use crate::rep::Rep;

@@ -1,4 +1,4 @@
-ghost use Rattle.std.specs.Prelude.{◌≡◌, ℕ};
+ghost use Rattle.std.specs.Prelude.{◌≡◌};
 ghost use Rattle.su_reps.specs.Tuples.{slots, sides};
 
 /// An irreducible representation of SU(n), as a space of tensors with upper and lower indices.

@@ -1,9 +1,8 @@
 //! Components given to the fields of a monomial, field by field, with equal values at the slots that a label joins.
-ghost use Rattle.std.specs.Prelude.{◌≡◌, ◌++◌, ◌∷◌, [], map, IfOk, OnOk};
-ghost use Rattle.std.specs.List.{flat_map, filter};
+ghost use Rattle.std.specs.Prelude.{◌≡◌, ◌++◌, IfOk, OnOk};
 ghost use Rattle.model_core.specs.Valid.{IsValid};
 ghost use Rattle.term_expand.specs.Projectors.{IsBasis};
-ghost use Rattle.term_expand.specs.Assignments.{with_candidate, extended, extended_all, after_factor, assigned, assignments};
+ghost use Rattle.term_expand.specs.Assignments.{with_candidate, extended, extended_all, after_factor, assignments};
 
 use crate::basis::Basis;
 use crate::candidates::{Candidate, candidates};

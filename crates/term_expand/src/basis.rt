@@ -1,5 +1,5 @@
 //! The components of a model, and the projectors on them as links.
-ghost use Rattle.std.specs.Prelude.{◌≡◌, IfOk, IfErr};
+ghost use Rattle.std.specs.Prelude.{IfOk, IfErr};
 ghost use Rattle.model_core.specs.Valid.{IsValid};
 ghost use Rattle.sparse_tensor.specs.Refusals.{IsTensorRefusal};
 ghost use Rattle.term_expand.specs.Projectors.{IsBasis};

@@ -1,5 +1,5 @@
 //! The parts of a beta function at a scalar coordinate, as values with their keys, and the matrix that they make.
-ghost use Rattle.std.specs.Prelude.{◌≡◌, ◌<◌, pos, length, IfOk, OnOk, IfErr};
+ghost use Rattle.std.specs.Prelude.{◌<◌, pos, length, IfOk, OnOk, IfErr};
 ghost use Rattle.frac128.specs.Rational.{whole};
 ghost use Rattle.beta_poly.specs.Polynomial.{scale_poly, mul_poly};
 ghost use Rattle.sparse_tensor.specs.Refusals.{IsTensorRefusal};

@@ -1,4 +1,4 @@
-use Rattle.std.proofs.Common.{◌≡◌, ◌≤◌, ◌+◌, ◌*◌, drop}
+use Rattle.std.proofs.Common.{◌≡◌, ◌≤◌, ◌+◌, drop}
 use Rattle.rate_tool.specs.Lines.{count_of}
 use Rattle.rate_tool.proofs.lines.count_of.Given as goal
 
