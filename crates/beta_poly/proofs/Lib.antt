@@ -3,6 +3,8 @@ mod Views
 mod Refused
 mod Refusing
 pub mod Gathered
+pub mod Neighbours
+mod Totals
 mod Distinct
 mod Rows
 pub mod Lookup

@@ -49,6 +49,11 @@ abbrev pub IsMultipleRefusal : Polynomial → ℚ → PolyFault → Type 0
 IsMultipleRefusal p c (Overflow pair) = IsFirstRefusedMultiple p c pair.a pair.b
 IsMultipleRefusal p c NoMemory = ⊤
 
+-- a refused sum of several polynomials carries two fractions whose sum doesn't fit; want of memory says nothing
+abbrev pub IsRefusedSum : PolyFault → Type 0
+IsRefusedSum (Overflow pair) = SumFits pair.a pair.b → ⊥
+IsRefusedSum NoMemory = ⊤
+
 -- the sum or the product of the two fractions doesn't fit
 abbrev pub IsRefusedPair : ℚ → ℚ → Type 0
 IsRefusedPair x y = (SumFits x y → ⊥) ⊎ (IsSmall (x *ℚ y) → ⊥)

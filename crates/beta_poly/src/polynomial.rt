@@ -1,7 +1,8 @@
 //! Polynomials: sums of terms with exact fractions as coefficients.
 ghost use Rattle.std.specs.Prelude.{◌≡◌, ◌<◌, length, Some, IsOk, IfOk, IfErr, slice_get};
-ghost use Rattle.beta_poly.specs.Polynomial.{term, zero_poly, add_poly, mul_poly, scale_poly, conj_poly, coefficient_of, ProductsFit};
-ghost use Rattle.beta_poly.specs.Refusals.{SumsFit, IsSumRefusal, MultiplesFit, IsMultipleRefusal, IsProductRefusal};
+ghost use Rattle.exact_algebra.specs.Sums.{sum};
+ghost use Rattle.beta_poly.specs.Polynomial.{polynomial, poly_ring, term, zero_poly, add_poly, mul_poly, scale_poly, conj_poly, coefficient_of, ProductsFit};
+ghost use Rattle.beta_poly.specs.Refusals.{SumsFit, IsSumRefusal, MultiplesFit, IsMultipleRefusal, IsProductRefusal, IsRefusedSum};
 
 use crate::fault::PolyFault;
 use crate::monomial::Mono;
@@ -29,6 +30,19 @@ impl Model for Poly {
     ghost view = { λ p. polynomial p.terms.items };
 
     ghost invariant = { λ p. IsPolynomial p.terms.items };
+}
+
+/// The terms of polynomials, one polynomial after the other.
+fn collected(alloc: Global, polynomials: Vec<Poly>) -> Result<Vec<(Mono, Frac)>, AllocError>
+    ensures { IfOk result (λ v. polynomial v.items ≡ sum poly_ring.semiring polynomials.items (λ q. q)) }
+{
+    let mut out = Vec::new(alloc);
+    let mut rest = polynomials.into_iter();
+    while let Some(polynomial) = rest.next() {
+        let Poly { mut terms } = polynomial;
+        out.append(&mut terms)?;
+    }
+    Ok(out)
 }
 
 impl Poly {
@@ -75,7 +89,21 @@ impl Poly {
     {
         let mut all = products(alloc, self.terms.as_slice(), other.terms.as_slice())?;
         sort_terms(&mut all)?;
-        let terms = gather(alloc, all.as_slice())?;
+        let terms = gather(alloc, all)?;
+        Ok(Poly { terms })
+    }
+
+    /// The sum of polynomials: their terms are collected, put into the canonical order at once, and added
+    /// where they have one monomial.
+    ///
+    /// `Overflow` carries two fractions whose sum is refused.
+    pub fn total(alloc: Global, polynomials: Vec<Poly>) -> Result<Poly, PolyFault>
+        ensures value { IfOk result (λ p. p ≡ sum poly_ring.semiring polynomials.items (λ q. q)) }
+        ensures refused { IfErr result IsRefusedSum }
+    {
+        let mut all = collected(alloc, polynomials)?;
+        sort_terms(&mut all)?;
+        let terms = gather(alloc, all)?;
         Ok(Poly { terms })
     }
 

@@ -2,12 +2,11 @@
 ghost use Rattle.std.specs.Prelude.{◌≡◌, ◌++◌, ◌∷◌, [], map, IfOk, IfErr, OnOk, IsPermutation};
 ghost use Rattle.std.specs.List.Sorted.{IsSortedByKey};
 ghost use Rattle.beta_poly.specs.Monomial.{monomial_cmp, conj_monomial, ExponentsFit};
-ghost use Rattle.beta_poly.specs.Polynomial.{IsPolynomial, polynomial, all_products, TermsFit};
-ghost use Rattle.beta_poly.specs.Refusals.{IsProductRefusal};
+ghost use Rattle.beta_poly.specs.Polynomial.{IsPolynomial, polynomial, all_products, kept, TermsFit};
+ghost use Rattle.beta_poly.specs.Refusals.{IsProductRefusal, IsRefusedSum};
 
 use crate::fault::PolyFault;
 use crate::monomial::Mono;
-use crate::terms::push_kept;
 use frac128::Frac;
 use std::alloc::{AllocError, Global};
 use std::cmp::Ordering;
@@ -87,37 +86,45 @@ pub(crate) fn sort_terms(terms: &mut Vec<(Mono, Frac)>) -> Result<(), AllocError
     Ok(())
 }
 
+/// Puts a term at the end, or nothing where its coefficient is 0.
+fn push_term(out: &mut Vec<(Mono, Frac)>, mono: Mono, value: Frac) -> Result<(), AllocError>
+    ensures { OnOk result (out.new.items ≡ out.old.items ++ kept mono value) }
+{
+    if value.is_zero() {
+        return Ok(());
+    }
+    out.push((mono, value))?;
+    Ok(())
+}
+
 /// The canonical terms of the sum of terms that stand in the order of their monomials: neighbours
 /// with one monomial are added, and what cancels is dropped.
-pub(crate) fn gather(alloc: Global, terms: &[(Mono, Frac)]) -> Result<Vec<(Mono, Frac)>, PolyFault>
-    requires { IsSortedByKey (λ e. e.0) monomial_cmp terms.now }
-    ensures value { IfOk result (λ v. polynomial v.items ≡ polynomial terms.now) }
+pub(crate) fn gather(
+    alloc: Global,
+    terms: Vec<(Mono, Frac)>,
+) -> Result<Vec<(Mono, Frac)>, PolyFault>
+    requires { IsSortedByKey (λ e. e.0) monomial_cmp terms.items }
+    ensures value { IfOk result (λ v. polynomial v.items ≡ polynomial terms.items) }
     ensures canonical { IfOk result (λ v. IsPolynomial v.items) }
-    ensures refused { IfErr result IsProductRefusal }
+    ensures refused { IfErr result IsRefusedSum }
 {
     let mut out = Vec::new(alloc);
-    if terms.is_empty() {
+    let mut rest = terms.into_iter();
+    let Some(first) = rest.next() else {
         return Ok(out);
-    }
-    let first = &terms[0];
-    let mut mono = &first.0;
-    let mut value = first.1;
-    let mut i: usize = 1;
-    while i < terms.len() {
-        let next = &terms[i];
-        match mono.cmp(&next.0) {
-            Ordering::Equal => {
-                value = value.add(&next.1)?;
-                i += 1;
-            }
+    };
+    let (mut mono, mut value) = first;
+    while let Some(next) = rest.next() {
+        let (next_mono, next_value) = next;
+        match mono.cmp(&next_mono) {
+            Ordering::Equal => value = value.add(&next_value)?,
             _ => {
-                push_kept(alloc, &mut out, mono, value)?;
-                mono = &next.0;
-                value = next.1;
-                i += 1;
+                push_term(&mut out, mono, value)?;
+                mono = next_mono;
+                value = next_value;
             }
         }
     }
-    push_kept(alloc, &mut out, mono, value)?;
+    push_term(&mut out, mono, value)?;
     Ok(out)
 }

@@ -4,12 +4,12 @@ use Rattle.frac128.specs.Rational.{ℚ}
 use Rattle.beta_poly.specs.declared.fault.PolyFault.{PolyFault}
 use Rattle.beta_poly.specs.declared.fault.PolyFault.TheVariants.{Overflow, NoMemory}
 use Rattle.beta_poly.specs.Polynomial.{Polynomial}
-use Rattle.beta_poly.specs.Refusals.{IsSumRefusal, IsMultipleRefusal, IsProductRefusal}
+use Rattle.beta_poly.specs.Refusals.{IsMultipleRefusal, IsProductRefusal, IsRefusedSum as IsRefusedTotal}
 use Rattle.sparse_tensor.specs.Refusals.{IsTensorRefusal, IsRefusedSum, tensor_fault}
 
-pub sum_refused : (p q : Polynomial) (f : PolyFault) → IsSumRefusal p q f → IsRefusedSum (tensor_fault f)
-sum_refused p q (Overflow pair) h = h.refused
-sum_refused p q NoMemory h = tt
+pub total_refused : (f : PolyFault) → IsRefusedTotal f → IsRefusedSum (tensor_fault f)
+total_refused (Overflow pair) h = h
+total_refused NoMemory h = tt
 
 pub multiple_refused : (p : Polynomial) (c : ℚ) (f : PolyFault) → IsMultipleRefusal p c f → IsTensorRefusal (tensor_fault f)
 multiple_refused p c (Overflow pair) h = inr h.refused

@@ -6,7 +6,7 @@ use Rattle.std.proofs.Common.{refl, sym, ap, ◌∙◌, arith, inl}
 use Rattle.std.proofs.lemmas.List.Sorted.{All-permutation, length_permutation}
 use Rattle.exact_algebra.specs.Sums.{where_equal}
 use Rattle.exact_algebra.specs.Permuted.{sum-permuted}
-use Rattle.exact_algebra.specs.Formal.{coefficient, coefficient-eval, eval, unit_at}
+use Rattle.exact_algebra.specs.Formal.{canonical_unique, coefficient, coefficient-eval, eval, unit_at}
 use Rattle.exact_algebra.specs.Canon.{value-of}
 use Rattle.exact_algebra.specs.TensorContraction.{places_keys, places_cmp}
 use Rattle.beta_poly.specs.Polynomial.{Polynomial, poly_ring}
@@ -61,6 +61,12 @@ value_in-gathered es key =
     let g = gathered places_keys poly_ring.semiring poly_zero_test es in
     coefficient-eval K R g key ∙ sym (value-of K R poly_zero_test g (unit_at K R key)) ∙ ap (λ x. eval K R x.0 (unit_at K R key)) (of-gathered K R poly_zero_test es)
     ∙ value-of K R poly_zero_test es (unit_at K R key) ∙ sym (coefficient-eval K R es key) ∙ value_gathered_at es key
+
+-- what nothing adds up to is empty
+pub map_empty : (es fs : Entries) → IsMap es → ((key : List ℕ) → value_in es key ≡ gathered_at fs key) → fs ≡ [] → es ≡ []
+map_empty es fs is same none =
+    canonical_unique places_keys poly_ring.semiring poly_zero_test es [] is (record { ascending = tt; nonzero = tt })
+    (λ key. same key ∙ ap (λ r. gathered_at r key) none ∙ sym (value_gathered_at [] key))
 
 pub map_gathered : (es : Entries) → IsSortedByKey (λ e. e.0) places_cmp es → IsMap (gathered places_keys poly_ring.semiring poly_zero_test es)
 map_gathered es h = canonical_gathered places_keys poly_ring.semiring poly_zero_test es (rising places_keys Polynomial es h)

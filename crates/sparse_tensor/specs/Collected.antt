@@ -1,10 +1,15 @@
 -- What projections, contractions and symmetrisations collect before it is gathered.
-use Rattle.std.specs.Prelude.{◌==◌, ◌<◌, ℕ, List, length, ◌++◌, map, get_or, set}
+use Rattle.std.specs.Prelude.{◌≡◌, ◌==◌, ◌<◌, ⊤, ℕ, List, [], ◌∷◌, length, ◌++◌, map, get_or, set, IsPermutation}
 use Rattle.std.specs.List.{filter, flat_map, remove}
-use Rattle.beta_poly.specs.Polynomial.{Polynomial, mul_poly, scale_poly, ProductsFit}
+use Rattle.exact_algebra.specs.Sums.{sum}
+use Rattle.beta_poly.specs.Polynomial.{Polynomial, poly_ring, add_poly, mul_poly, scale_poly, ProductsFit}
 use Rattle.sparse_tensor.specs.declared.links.Link.{Link}
 use Rattle.sparse_tensor.specs.Tensor.{Entries}
 use Rattle.sparse_tensor.specs.Operations.{places_at, put_back}
+
+-- the sum of a value and of more values
+abbrev pub run_value : Polynomial → List Polynomial → Polynomial
+run_value first more = add_poly first (sum poly_ring.semiring more (λ q. q))
 
 -- the links from a place
 abbrev pub links_from : ℕ → List Link → List Link
@@ -45,3 +50,15 @@ exchanged legs e order = (put_back e.0 legs (places_at order e.0), e.1)
 -- each entry with the places at legs in each of some orders of the legs
 abbrev pub all_exchanged : List ℕ → List (List ℕ) → Entries → Entries
 all_exchanged legs all es = flat_map (λ e. map (exchanged legs e) all) es
+
+-- an entry with the places that it has at legs in another order of the legs
+pub record IsFolded (legs : List ℕ) (e f : List ℕ × Polynomial) : Type 0 where
+  pub order : List ℕ
+  pub legs_are : IsPermutation legs order
+  pub is : f ≡ exchanged legs e order
+
+-- each entry so
+abbrev pub AreFolded : List ℕ → Entries → Entries → Type 0
+AreFolded legs [] [] = ⊤
+AreFolded legs (e ∷ es) (f ∷ fs) = IsFolded legs e f × AreFolded legs es fs
+AreFolded legs _ _ = ⊥

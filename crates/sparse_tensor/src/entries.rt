@@ -5,11 +5,12 @@ ghost use Rattle.exact_algebra.specs.TensorContraction.{places_cmp};
 ghost use Rattle.beta_poly.specs.Polynomial.{zero_poly};
 ghost use Rattle.sparse_tensor.specs.Tensor.{HasRank, IsMap, kept, value_in};
 ghost use Rattle.sparse_tensor.specs.Operations.{entry, gathered_at};
-ghost use Rattle.sparse_tensor.specs.Refusals.{IsSumRefusalOf};
+ghost use Rattle.sparse_tensor.specs.Collected.{run_value};
+ghost use Rattle.sparse_tensor.specs.Refusals.{IsRefusedSum, IsSumRefusalOf};
 
 use crate::fault::TensorFault;
 use crate::key::Key;
-use crate::polynomials::{is_zero, sum};
+use crate::polynomials::{is_zero, total};
 use crate::values::Value;
 use beta_poly::Poly;
 use std::alloc::{AllocError, Global};
@@ -51,8 +52,23 @@ fn push_kept(out: &mut Vec<Entry>, key: Key, value: Poly) -> Result<(), AllocErr
     Ok(())
 }
 
+/// The sum of a value and of more values.
+fn total_of(alloc: Global, first: Poly, more: Vec<Poly>) -> Result<Poly, TensorFault>
+    ensures value { IfOk result (λ p. p ≡ run_value first more.items) }
+    ensures refused { IfErr result IsRefusedSum }
+{
+    if more.is_empty() {
+        return Ok(first);
+    }
+    let mut all = Vec::new(alloc);
+    all.push(first)?;
+    let mut rest = more;
+    all.append(&mut rest)?;
+    total(alloc, all)
+}
+
 /// The entries of the map that entries in the order of their keys stand for: neighbours with one key are
-/// added, and what cancels is dropped.
+/// added at once, and what cancels is dropped.
 fn gather_sorted(alloc: Global, entries: Vec<Entry>) -> Result<Vec<Entry>, TensorFault>
     requires { IsSortedByKey (λ e. e.0) places_cmp entries.items }
     ensures value { IfOk result (λ v. (key : List ℕ) → value_in v.items key ≡ gathered_at entries.items key) }
@@ -62,21 +78,25 @@ fn gather_sorted(alloc: Global, entries: Vec<Entry>) -> Result<Vec<Entry>, Tenso
 {
     let mut out = Vec::new(alloc);
     let mut rest = entries.into_iter();
-    let Some(first) = rest.next() else {
+    let Some(start) = rest.next() else {
         return Ok(out);
     };
-    let (mut key, mut value) = first;
+    let (mut key, mut first) = start;
+    let mut more = Vec::new(alloc);
     while let Some(next) = rest.next() {
         let (next_key, next_value) = next;
         match key.cmp(&next_key) {
-            Ordering::Equal => value = sum(alloc, &value, &next_value)?,
+            Ordering::Equal => more.push(next_value)?,
             _ => {
+                let value = total_of(alloc, first, more)?;
                 push_kept(&mut out, key, value)?;
                 key = next_key;
-                value = next_value;
+                first = next_value;
+                more = Vec::new(alloc);
             }
         }
     }
+    let value = total_of(alloc, first, more)?;
     push_kept(&mut out, key, value)?;
     Ok(out)
 }

@@ -1,6 +1,7 @@
-//! Sums, multiples and products of values, with the refusals of tensors.
+//! Totals, multiples and products of values, with the refusals of tensors.
 ghost use Rattle.std.specs.Prelude.{◌≡◌, IfOk, IfErr};
-ghost use Rattle.beta_poly.specs.Polynomial.{add_poly, mul_poly, scale_poly, ProductsFit};
+ghost use Rattle.exact_algebra.specs.Sums.{sum};
+ghost use Rattle.beta_poly.specs.Polynomial.{poly_ring, mul_poly, scale_poly, ProductsFit};
 ghost use Rattle.sparse_tensor.specs.Tensor.{poly_zero_test};
 ghost use Rattle.sparse_tensor.specs.Refusals.{IsTensorRefusal, IsRefusedSum};
 
@@ -17,14 +18,14 @@ pub(crate) fn is_zero(value: &Poly) -> bool
     value.len() == 0
 }
 
-/// The sum of two values.
-#[tactic(auto, using(crate::proofs::Faults::sum_refused))]
-pub(crate) fn sum(alloc: Global, a: &Poly, b: &Poly) -> Result<Poly, TensorFault>
-    ensures value { IfOk result (λ p. p ≡ add_poly a.now b.now) }
+/// The sum of values.
+#[tactic(auto, using(crate::proofs::Faults::total_refused))]
+pub(crate) fn total(alloc: Global, values: Vec<Poly>) -> Result<Poly, TensorFault>
+    ensures value { IfOk result (λ p. p ≡ sum poly_ring.semiring values.items (λ q. q)) }
     ensures refused { IfErr result IsRefusedSum }
 {
-    let sum = a.add(alloc, b)?;
-    Ok(sum)
+    let total = Poly::total(alloc, values)?;
+    Ok(total)
 }
 
 /// The multiple of a value.

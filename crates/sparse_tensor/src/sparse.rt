@@ -11,7 +11,7 @@ use crate::entries::{Entry, entries_of, find, gather_entries};
 use crate::fault::TensorFault;
 use crate::links::LinkList;
 use crate::projections::moved_entries;
-use crate::symmetries::{exchanged_entries, orders_of};
+use crate::symmetries::{exchanged_entries, folded_entries, orders_of};
 use crate::values::ValueList;
 use beta_poly::Poly;
 use std::alloc::Global;
@@ -123,7 +123,7 @@ impl Sparse {
     }
 
     /// The symmetrisation over legs: at a key, the sum over all orders of the places at these legs, without
-    /// a divisor.
+    /// a divisor. Entries whose keys differ by the order of these places alone are added first.
     ///
     /// The condition is that the legs are distinct legs of the tensor's. `Overflow` carries two fractions
     /// whose sum is refused, and comes only where the tensor has an entry.
@@ -133,8 +133,10 @@ impl Sparse {
         ensures value { IfOk result (HasValues (rank_of self.now) (symmetrised_at legs.now (value self.now))) }
         ensures refused { IfErr result (IsSumRefusalOf (entries_of self.now)) }
     {
+        let entries = folded_entries(alloc, self.entries.as_slice(), legs)?;
+        let folded = gather_entries(alloc, entries)?;
         let orders = orders_of(alloc, legs)?;
-        let all = exchanged_entries(alloc, self.entries.as_slice(), legs, orders.as_slice())?;
+        let all = exchanged_entries(alloc, folded.as_slice(), legs, orders.as_slice())?;
         let tensor = Sparse::of_entries(alloc, self.rank, all)?;
         Ok(tensor)
     }

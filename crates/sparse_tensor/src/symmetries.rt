@@ -1,9 +1,13 @@
 //! Entries with the places at legs in all orders.
+<<<<<<< HEAD
 ghost use Rattle.std.specs.Prelude.{◌≡◌, ◌<◌, ◌++◌, [], length, map, IfOk, OnOk};
+=======
+ghost use Rattle.std.specs.Prelude.{◌≡◌, ◌<◌, ◌++◌, [], length, map, IfOk, OnOk, IsPermutation};
+>>>>>>> 921ec95dc32997c7937da0c54f0162cea95e93af
 ghost use Rattle.std.specs.List.{All, flat_map};
 ghost use Rattle.exact_algebra.specs.Orders.{inserts, orders};
 ghost use Rattle.sparse_tensor.specs.Operations.{places_at, put_back};
-ghost use Rattle.sparse_tensor.specs.Collected.{exchanged, all_exchanged};
+ghost use Rattle.sparse_tensor.specs.Collected.{IsFolded, AreFolded, exchanged, all_exchanged};
 
 use crate::entries::Entry;
 use crate::key::Key;
@@ -96,6 +100,42 @@ pub(crate) fn exchanged_entries(
     let mut out = Vec::new(alloc);
     for entry in entries {
         push_exchanged(alloc, &mut out, entry, legs, all)?;
+    }
+    Ok(out)
+}
+
+/// The legs in the order of the places that a key has at them.
+fn legs_by_place(alloc: Global, key: &Key, legs: &[u32]) -> Result<Vec<u32>, AllocError>
+    ensures { IfOk result (λ v. IsPermutation legs.now v.items) }
+{
+    let mut order = Vec::from_slice(alloc, legs)?;
+    order.sort_by_key(|leg| key.at(*leg))?;
+    Ok(order)
+}
+
+/// An entry with its places at legs in ascending order.
+fn folded(alloc: Global, entry: &Entry, legs: &[u32]) -> Result<Entry, AllocError>
+    requires { All (λ leg. leg < length entry.now.0) legs.now }
+    ensures { IfOk result (λ e. IsFolded legs.now entry.now e) }
+{
+    let order = legs_by_place(alloc, &entry.0, legs)?;
+    let key = exchanged_key(alloc, &entry.0, legs, order.as_slice())?;
+    let value = entry.1.copy(alloc)?;
+    Ok((key, value))
+}
+
+/// Each entry with its places at legs in ascending order.
+pub(crate) fn folded_entries(
+    alloc: Global,
+    entries: &[Entry],
+    legs: &[u32],
+) -> Result<Vec<Entry>, AllocError>
+    requires { All (λ e. All (λ leg. leg < length e.0) legs.now) entries.now }
+    ensures { IfOk result (λ v. AreFolded legs.now entries.now v.items) }
+{
+    let mut out = Vec::new(alloc);
+    for entry in entries {
+        out.push(folded(alloc, entry, legs)?)?;
     }
     Ok(out)
 }

@@ -18,4 +18,4 @@ unfolding polynomial
 returns-clause-value c =
     let a_is : polynomial c.as_slice.result.now ≡ c.args.self.now = ap polynomial c.as_slice.ensures.value ∙ c.self.view_is in
     let b_is : polynomial c.as_slice-2.result.now ≡ c.args.other.now = ap polynomial c.as_slice-2.ensures.value ∙ c.other.view_is in
-    c.in_ok-terms.ensures.value ∙ ap polynomial c.as_slice-3.ensures.value ∙ of-permuted monomial_keys ring_ℚ.semiring zero_test c.in_ok-all.all.items c.sort_terms.new.terms.items c.in_ok-sort_terms.ensures.permutation ∙ ap polynomial c.in_ok-all.ensures.value ∙ of-products monomials ring_ℚ.semiring zero_test c.as_slice.result.now c.as_slice-2.result.now ∙ ap₂ mul_poly a_is b_is
+    c.in_ok-terms.ensures.value ∙ of-permuted monomial_keys ring_ℚ.semiring zero_test c.in_ok-all.all.items c.sort_terms.new.terms.items c.in_ok-sort_terms.ensures.permutation ∙ ap polynomial c.in_ok-all.ensures.value ∙ of-products monomials ring_ℚ.semiring zero_test c.as_slice.result.now c.as_slice-2.result.now ∙ ap₂ mul_poly a_is b_is
