@@ -1,19 +1,17 @@
--- Names of blocks that are the same, blocks that are named alike, and names as sorted tokens.
-use Rattle.std.specs.Prelude.{◌≡◌, ◌==◌, ◌&&◌, ◌+◌, ◌-◌, ℕ, zero, suc, Bool, true, false, if◌then◌else◌, cond, List, [], ◌∷◌, ◌++◌, map, length, replicate}
-use Rattle.std.specs.List.{insert, prefix_len}
+-- Names of blocks that are the same, and blocks that are named alike.
+use Rattle.std.specs.Prelude.{◌≡◌, ◌==◌, ◌&&◌, ◌-◌, ℕ, zero, suc, Bool, true, false, List, [], ◌∷◌, ◌++◌, map, length, replicate}
 use Rattle.std.proofs.Common.{refl, sym, ap, ap₂, ◌∙◌, arith, true≢false}
 use Rattle.std.proofs.lemmas.Bool.Decides.{nat_tests}
 use Rattle.model_core.specs.declared.content.FieldToken.{FieldToken}
 use Rattle.model_core.specs.declared.term.TermKind.{TermKind}
 use Rattle.model_core.specs.declared.term.TermKind.TheVariants.{Fermion, Scalar}
-use Rattle.model_core.specs.Content.{is_before, is_fermionic}
+use Rattle.model_core.specs.Content.{is_fermionic}
 use Rattle.model_core.specs.Directions.{Direction}
 use Rattle.model_core.proofs.ValidLaws.{both}
 use Rattle.term_expand.specs.declared.token.Token.{Token}
 use Rattle.term_expand.specs.Texts.{leg_count}
 use Rattle.term_expand.specs.Tokens.{token_of, dummy_token}
 use Rattle.span_solver.specs.BlockDirections.{same_bool, same_token, same_name}
-use Rattle.derive_core.specs.BlockBetas.{order_of_token, inserted}
 use Rattle.derive_core.specs.Blocks.{name_of}
 
 -- ---- the test
@@ -105,21 +103,3 @@ block_alike (x ∷ a) (y ∷ b) m n same =
 
 pub blocks_alike : (a b : Direction) → name_of a ≡ name_of b → a.block ≡ b.block
 blocks_alike a b same = block_alike a.block b.block (leg_count a.kind - length a.block) (leg_count b.kind - length b.block) same
-
--- ---- sorted tokens
-
--- how many of the tokens at the front come before one
-abbrev pub place_of : Token → List Token → ℕ
-place_of token tokens = prefix_len (λ (first : Token). is_before (order_of_token first token)) tokens
-
--- one put there
-pub inserted_there : (token : Token) (tokens : List Token) → insert tokens (place_of token tokens) token ≡ inserted token tokens
-inserted_there token [] = refl
-inserted_there token (first ∷ others) = by_order (is_before (order_of_token first token)) (inserted_there token others)
-  where
-    by_order : (b : Bool) → insert others (place_of token others) token ≡ inserted token others
-        → insert (first ∷ others) (cond b (1 + place_of token others) 0) token ≡ (if b then first ∷ inserted token others else token ∷ first ∷ others)
-    by_order true rest =
-        let next : 1 + place_of token others ≡ suc (place_of token others) = omega arith in
-        ap (λ place. insert (first ∷ others) place token) next ∙ ap (λ tokens. first ∷ tokens) rest
-    by_order false rest = refl

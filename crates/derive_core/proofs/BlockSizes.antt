@@ -32,7 +32,7 @@ length-inserted token (first ∷ tokens) = by_order (is_before (token_cmp first 
     by_order true h = ap suc h
     by_order false h = refl
 
-length-sorted : (tokens : List FieldToken) → length (sorted tokens) ≡ length tokens
+pub length-sorted : (tokens : List FieldToken) → length (sorted tokens) ≡ length tokens
 length-sorted [] = refl
 length-sorted (token ∷ tokens) = length-inserted token (sorted tokens) ∙ ap suc (length-sorted tokens)
 
@@ -42,7 +42,7 @@ length-content_at used row column = length-sorted (map (token_at row column) use
 length-conjugate_content : (model : Model) (content : List FieldToken) → length (conjugate_content model content) ≡ length content
 length-conjugate_content model content = length-sorted (map (conjugate_token model) content) ∙ length-map content (conjugate_token model)
 
-length-block_of : (model : Model) (content : List FieldToken) → length (block_of model content) ≡ length content
+pub length-block_of : (model : Model) (content : List FieldToken) → length (block_of model content) ≡ length content
 length-block_of model content = by_order (is_before (content_cmp (conjugate_content model content) content))
   where
     by_order : (b : Bool) → length (if b then conjugate_content model content else content) ≡ length content
@@ -73,7 +73,7 @@ uses_fit model term is =
 
 -- ---- names
 
-length-block_name : (block : List FieldToken) (legs : ℕ) → length block ≤ legs → length (map token_of block ++ replicate (legs - length block) dummy_token) ≡ legs
+pub length-block_name : (block : List FieldToken) (legs : ℕ) → length block ≤ legs → length (map token_of block ++ replicate (legs - length block) dummy_token) ≡ legs
 length-block_name block legs fits =
     omega (arith, fits, length-append (map token_of block) (replicate (legs - length block) dummy_token), length-map block token_of, length-replicate (legs - length block) dummy_token)
 

@@ -19,13 +19,15 @@ use Rattle.sparse_tensor.specs.Tensor.{Tensor, Entries, HasRank, HasValues, rank
 use Rattle.sparse_tensor.specs.Operations.{entry, gathered_at}
 use Rattle.sparse_tensor.proofs.Parts.{refusal_of}
 use Rattle.model_core.specs.declared.model.Model.{Model}
-use Rattle.model_core.specs.Content.{is_before}
+use Rattle.model_core.specs.declared.term.TermKind.TheVariants.{Scalar}
+use Rattle.model_core.specs.BlockSide.{component_content, component_block}
+use Rattle.model_core.specs.Content.{same_block}
 use Rattle.term_expand.specs.declared.token.Token.{Token}
 use Rattle.term_expand.proofs.Legs.{of_three, of_four}
 use Rattle.term_expand.proofs.Sides.{gathered-append}
 use Rattle.span_solver.specs.BlockDirections.{same_name}
 use Rattle.beta_formulas.specs.ScalarBeta.{scalar_beta_at}
-use Rattle.derive_core.specs.BlockBetas.{IsLegCount, name_cmp, scalar_content, scalar_side, name_at, yukawa_side_beta, scalar_side_beta, side_beta, block_beta}
+use Rattle.derive_core.specs.BlockBetas.{IsLegCount, scalar_side, name_at, yukawa_side_beta, scalar_side_beta, side_beta, block_beta}
 use Rattle.derive_core.specs.SideBetas.{AreSideBetas, side_values, named_values}
 use Rattle.derive_core.specs.declared.block_betas.SideBetas.{SideBetas}
 use Rattle.derive_core.proofs.BlockNames.{nat_same}
@@ -191,7 +193,7 @@ module _ (model : Model) (name : List Token) where
 no_third_side : (model : Model) (x : ℕ) (key : List ℕ) → scalar_side_beta model (suc (suc x)) key ≡ zero_poly
 no_third_side model x key = ap (λ b. if b then scalar_beta_at model key else zero_poly) (never (scalar_side model key == suc (suc x)) refl)
   where
-    low : (b : Bool) → (if b then 1 else 0) ≤ 1
+    low : (b : Bool) → (if b then 0 else 1) ≤ 1
     low true = omega arith
     low false = omega arith
 
@@ -199,7 +201,7 @@ no_third_side model x key = ap (λ b. if b then scalar_beta_at model key else ze
     never false other = other
     never true same =
         let third : scalar_side model key ≡ suc (suc x) = nat_same (scalar_side model key) (suc (suc x)) same in
-        absurd (omega (arith, third, low (is_before (name_cmp (scalar_content model 1 key) (scalar_content model 0 key)))))
+        absurd (omega (arith, third, low (same_block (component_content model Scalar (0 ∷ key)) (component_block model Scalar (0 ∷ key)))))
 
 pub four_legs : (n : ℕ) → IsLegCount n → (n ≡ 3 → ⊥) → n ≡ 4
 four_legs n (inl three) other = absurd (other three)

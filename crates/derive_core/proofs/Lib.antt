@@ -20,6 +20,7 @@ pub mod NameSizes
 pub mod OneAnswer
 pub mod OneTold
 pub mod OwnDirections
+pub mod PlaceTokens
 pub mod SecondLines
 pub mod Solvers
 pub mod Sounds

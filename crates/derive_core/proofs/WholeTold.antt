@@ -14,7 +14,9 @@ use Rattle.beta_poly.specs.Polynomial.{Polynomial, poly_ring, zero_poly, add_pol
 use Rattle.sparse_tensor.specs.Tensor.{Tensor, Entries, HasValues, rank_of, entries_of, value}
 use Rattle.sparse_tensor.specs.declared.fault.TensorFault.{TensorFault}
 use Rattle.model_core.specs.declared.model.Model.{Model}
-use Rattle.model_core.specs.Content.{is_before}
+use Rattle.model_core.specs.declared.term.TermKind.TheVariants.{Scalar}
+use Rattle.model_core.specs.BlockSide.{component_content, component_block}
+use Rattle.model_core.specs.Content.{same_block}
 use Rattle.model_core.specs.Directions.{directions, entries_from, entry_directions}
 use Rattle.term_expand.specs.declared.token.Token.{Token}
 use Rattle.span_solver.specs.BlockDirections.{same_name}
@@ -22,7 +24,7 @@ use Rattle.derive_core.specs.Blocks.{name_of}
 use Rattle.derive_core.specs.Outcomes.{HasSomething, IsAmong}
 use Rattle.derive_core.specs.SideBetas.{AreSideBetas}
 use Rattle.derive_core.specs.Works.{AreSides, AreSome, TellsDirections, AreDirectionsTold, TellsEntries, AreSideValues, AreSidesTold, IsWholeTold}
-use Rattle.derive_core.specs.BlockBetas.{IsLegCount, name_cmp, name_at, scalar_content, scalar_side, scalar_side_beta, conjugate_beta_at, side_beta, block_beta}
+use Rattle.derive_core.specs.BlockBetas.{IsLegCount, name_at, scalar_side, scalar_side_beta, conjugate_beta_at, side_beta, block_beta}
 use Rattle.derive_core.specs.declared.block_betas.SideBetas.{SideBetas}
 use Rattle.derive_core.specs.declared.outcomes.Told.{Told}
 use Rattle.derive_core.proofs.NameOrder.{name_same}
@@ -114,7 +116,7 @@ side_told model side t places told are long tells some =
     told_entry model side t places told tells (entry_with t places (λ none. some (sym (are.values.value_is places long) ∙ none)))
 
 -- four scalars stand on side 0 or on side 1
-side_small : (b : Bool) → (if b then 1 else 0) < 2
+side_small : (b : Bool) → (if b then 0 else 1) < 2
 side_small true = omega arith
 side_small false = omega arith
 
@@ -130,7 +132,7 @@ not_side n side small = by_test (n == suc (suc side)) refl
 scalar_elsewhere : (model : Model) (side : ℕ) (places : List ℕ) → scalar_side_beta model (suc (suc side)) places ≡ zero_poly
 scalar_elsewhere model side places =
     ap (λ (b : Bool). if b then scalar_beta_at model places else zero_poly)
-    (not_side (scalar_side model places) side (side_small (is_before (name_cmp (scalar_content model 1 places) (scalar_content model 0 places)))))
+    (not_side (scalar_side model places) side (side_small (same_block (component_content model Scalar (0 ∷ places)) (component_block model Scalar (0 ∷ places)))))
 
 -- all entries on both sides are told
 pub record TellsSides (model : Model) (sides : SideBetas) (told : List Told) : Type 0 where

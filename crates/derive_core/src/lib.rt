@@ -6,6 +6,7 @@ mod betas;
 mod block_betas;
 mod block_lines;
 mod block_names;
+mod component_blocks;
 mod coupling_lines;
 mod dependence;
 mod fault;
