@@ -1,6 +1,6 @@
 -- The steps of a loop that collects the terms of polynomials from the front.
 use Rattle.std.specs.Prelude.{◌≡◌, List, [], ◌∷◌, ◌++◌}
-use Rattle.std.proofs.Common.{sym, ap, ap₂, ◌∙◌}
+use Rattle.std.proofs.Common.{sym, ap, ◌∙◌}
 use Rattle.exact_algebra.specs.Canon.{of-append, nought-of}
 use Rattle.exact_algebra.specs.Ring.{zero_add}
 use Rattle.exact_algebra.specs.Sums.{sum, sum-nil, sum-cons}

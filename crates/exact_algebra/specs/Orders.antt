@@ -43,6 +43,13 @@ Rearranged-sym (keep r) = keep (Rearranged-sym r)
 Rearranged-sym swap = swap
 Rearranged-sym (then r s) = then (Rearranged-sym s) (Rearranged-sym r)
 
+-- a mapped list in another order
+pub Rearranged-map : {A B : Type 0} (g : A → B) {xs ys : List A} → Rearranged xs ys → Rearranged (map g xs) (map g ys)
+Rearranged-map g same = same
+Rearranged-map g (keep r) = keep (Rearranged-map g r)
+Rearranged-map g swap = swap
+Rearranged-map g (then r s) = then (Rearranged-map g r) (Rearranged-map g s)
+
 -- ---- the list of all orders
 
 All-append : {A : Type 0} (P : A → Type 0) (xs ys : List A) → AllByRecursion P xs → AllByRecursion P ys → AllByRecursion P (xs ++ ys)
@@ -79,7 +86,7 @@ unfolding inserts
 length-inserts x [] = refl
 length-inserts x (y ∷ ys) = ap suc (length-map (inserts x ys) (λ w. y ∷ w) ∙ length-inserts x ys)
 
-length-rearranged : {A : Type 0} {xs ys : List A} → Rearranged xs ys → length ys ≡ length xs
+pub length-rearranged : {A : Type 0} {xs ys : List A} → Rearranged xs ys → length ys ≡ length xs
 length-rearranged same = refl
 length-rearranged (keep r) = ap suc (length-rearranged r)
 length-rearranged swap = refl

@@ -1,7 +1,7 @@
 -- The beta functions of scalar couplings at coordinates in another order, and at dummies.
 use Rattle.std.specs.Prelude.{◌≡◌, ◌≢◌, ◌⊎◌, suc, nat_le, List, [], ◌∷◌, length, IsPermutation}
 use Rattle.std.proofs.Common.{cond, refl, sym, ap, ap₂, ◌∙◌, arith, inl, inr}
-use Rattle.exact_algebra.specs.Orders.{Rearranged, sum_orders-rearranged}
+use Rattle.exact_algebra.specs.Orders.{Rearranged, length-rearranged, sum_orders-rearranged}
 use Rattle.exact_algebra.specs.Orders.Rearranged.{same, keep, swap, then}
 use Rattle.exact_algebra.specs.Permuted.{Rearranged-permuted}
 use Rattle.beta_poly.specs.Polynomial.{poly_ring, zero_poly}
@@ -10,7 +10,6 @@ use Rattle.model_core.specs.Scalar.{Coordinate}
 use Rattle.model_core.specs.Scalar.Coordinate.{Of, Dummy}
 use Rattle.beta_formulas.specs.ScalarBeta.{FourLegs, at_four, dummy_count, beta_function, scalar_beta}
 use Rattle.quartic_one_loop.specs.OrderShares.{order_share}
-use Rattle.quartic_one_loop.proofs.QuarticSymmetry.{Rearranged-length}
 use Rattle.quartic_one_loop.proofs.OrderSums.{over_orders-shares}
 
 -- ---- dummies
@@ -55,8 +54,8 @@ module _ (model : Model) where
       by_cases : AreFour cs ⊎ ((length cs ≢ 4) × ((f : FourLegs) → at_four f cs ≡ zero_poly)) → AreFour ds ⊎ ((length ds ≢ 4) × ((f : FourLegs) → at_four f ds ≡ zero_poly)) → at_four (beta_function model) cs ≡ at_four (beta_function model) ds
       by_cases (inl m) (inl n) = four-moved m n r
       by_cases (inr m) (inr n) = m.1 (beta_function model) ∙ sym (n.1 (beta_function model))
-      by_cases (inl m) (inr n) = absurd (n.0 (Rearranged-length r ∙ four_long m))
-      by_cases (inr m) (inl n) = absurd (m.0 (sym (Rearranged-length r) ∙ four_long n))
+      by_cases (inl m) (inr n) = absurd (n.0 (length-rearranged r ∙ four_long m))
+      by_cases (inr m) (inl n) = absurd (m.0 (sym (length-rearranged r) ∙ four_long n))
 
   -- the beta function doesn't see the order of the legs
   pub scalar_beta_permuted : (cs ds : List Coordinate) → IsPermutation cs ds → scalar_beta model cs ≡ scalar_beta model ds

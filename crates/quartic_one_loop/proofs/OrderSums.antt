@@ -2,7 +2,7 @@
 use Rattle.std.specs.Prelude.{◌≡◌, ℕ, zero, suc, ◌+◌, pos, List, [], ◌∷◌, map, length, slice_get, Option, Some, None}
 use Rattle.std.proofs.Common.{refl, sym, ap, ap₂, ◌∙◌, arith}
 use mathlib.Core.Path.{fun_ext}
-use Rattle.exact_algebra.specs.Orders.{Rearranged, orders, orders-rearranged, picks, factorial, sum_orders, sum_orders-map, sum_orders-picks, sum_orders-symmetric}
+use Rattle.exact_algebra.specs.Orders.{Rearranged, length-rearranged, orders, orders-rearranged, picks, factorial, sum_orders, sum_orders-map, sum_orders-picks, sum_orders-symmetric}
 use Rattle.exact_algebra.specs.Orders.Rearranged.{same, keep, swap, then}
 use Rattle.exact_algebra.specs.Maps.{const-IsSemiringMap}
 use Rattle.exact_algebra.specs.Sums.{sum, sum-cons, sum-nil, sum-add, sum-mul, sum-zero, sum-same_on, number, below-zero, below-suc}
@@ -23,7 +23,7 @@ use Rattle.beta_formulas.specs.ScalarBeta.{FourLegs, at_four, over_orders, over_
 use Rattle.quartic_one_loop.specs.FourLegs.{four_at}
 use Rattle.quartic_one_loop.specs.OrderShares.{loop_share, box_share, leg_share, charge_share, gauge_share, order_share}
 use Rattle.term_expand.proofs.Legs.{of_four}
-use Rattle.quartic_one_loop.proofs.QuarticSymmetry.{Rearranged-length, scalar_tensor-moved}
+use Rattle.quartic_one_loop.proofs.QuarticSymmetry.{scalar_tensor-moved}
 
 -- ---- orders of coordinates that may be missing
 
@@ -159,7 +159,7 @@ module _ (model : Model) (line : Coordinate → (Coordinate → Polynomial) → 
   six : (a : Coordinate) (ws : List Coordinate) → length ws ≡ 3 → sum_orders poly_ring.semiring ws (λ vs. at_four first_line (a ∷ vs)) ≡ mul_poly (number poly_ring.semiring 6) (line_with a ws)
   unfolding factorial
   six a ws l =
-      sum_orders-symmetric poly_ring.semiring ws (λ vs. at_four first_line (a ∷ vs)) (λ vs r. line_at a vs (Rearranged-length r ∙ l) ∙ sym (line-moved a ws vs r l) ∙ sym (line_at a ws l))
+      sum_orders-symmetric poly_ring.semiring ws (λ vs. at_four first_line (a ∷ vs)) (λ vs r. line_at a vs (length-rearranged r ∙ l) ∙ sym (line-moved a ws vs r l) ∙ sym (line_at a ws l))
       ∙ ap₂ (λ n p. mul_poly (number poly_ring.semiring n) p) (ap factorial l) (line_at a ws l)
 
   four_legs : (a b c d : Coordinate) → sum poly_ring.semiring (picks (a ∷ b ∷ c ∷ d ∷ [])) (λ p. line_with p.0 p.1) ≡ over_legs model line a b c d

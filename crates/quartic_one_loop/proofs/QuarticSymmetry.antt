@@ -3,7 +3,7 @@ use Rattle.std.specs.Prelude.{◌≡◌, ℕ, suc, Bool, true, false, List, [], 
 use Rattle.std.proofs.Common.{cond, refl, sym, ap, ap₂, ◌∙◌, arith}
 use Rattle.std.proofs.lemmas.List.{length-map}
 use mathlib.Core.Path.{fun_ext}
-use Rattle.exact_algebra.specs.Orders.{Rearranged, sum_orders-rearranged}
+use Rattle.exact_algebra.specs.Orders.{Rearranged, Rearranged-map, length-rearranged, sum_orders-rearranged}
 use Rattle.exact_algebra.specs.Orders.Rearranged.{same, keep, swap, then}
 use Rattle.exact_algebra.specs.Ring.{mul_left_comm}
 use Rattle.exact_algebra.specs.Sums.{sum, sum-mul, sum-swap}
@@ -21,20 +21,6 @@ use Rattle.model_core.specs.Directions.{CouplingEntry, entries, symbol_of, multi
 use Rattle.model_core.specs.MonomialValue.{text_at}
 use Rattle.model_core.specs.Scalar.{Coordinate, partner, scalar_coordinates}
 use Rattle.model_core.specs.TermTensor.{Numbers, legs_of, coordinate_projector, projected, scalar_ways, all_ways, text_tensor, has_two_texts, symbol_tensor}
-
--- ---- rearranged lists
-
-pub Rearranged-map : {A B : Type 0} (g : A → B) {xs ys : List A} → Rearranged xs ys → Rearranged (map g xs) (map g ys)
-Rearranged-map g same = same
-Rearranged-map g (keep r) = keep (Rearranged-map g r)
-Rearranged-map g swap = swap
-Rearranged-map g (then r s) = then (Rearranged-map g r) (Rearranged-map g s)
-
-pub Rearranged-length : {A : Type 0} {xs ys : List A} → Rearranged xs ys → length ys ≡ length xs
-Rearranged-length same = refl
-Rearranged-length (keep r) = ap suc (Rearranged-length r)
-Rearranged-length swap = refl
-Rearranged-length (then r s) = Rearranged-length s ∙ Rearranged-length r
 
 -- ---- projections on equal legs
 
@@ -77,7 +63,7 @@ module _ (groups : List Group) (leg : List Coordinate) where
   projected-four cs ds r l f symmetric =
       ap (λ legs. projected groups legs f cs) (sym (like_four cs l))
       ∙ projected-moved cs ds r f symmetric
-      ∙ ap (λ legs. projected groups legs f ds) (like_four ds (Rearranged-length r ∙ l))
+      ∙ ap (λ legs. projected groups legs f ds) (like_four ds (length-rearranged r ∙ l))
 
 -- ---- the tensors of texts
 

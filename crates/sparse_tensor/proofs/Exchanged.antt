@@ -6,9 +6,8 @@ use Rattle.std.proofs.lemmas.List.{length-map}
 use Rattle.exact_algebra.specs.Sums.{sum, sum-cons, sum-flat_map, sum-map, sum-same_on, sum-swap, where_equal}
 use Rattle.exact_algebra.specs.Formal.{coefficient}
 use Rattle.exact_algebra.specs.Kronecker.{sum-where}
-use Rattle.exact_algebra.specs.Orders.{Rearranged, orders, orders-rearranged, sum_orders, sum_orders-map, sum_orders-rearranged}
+use Rattle.exact_algebra.specs.Orders.{Rearranged, Rearranged-map, length-rearranged, orders, orders-rearranged, sum_orders, sum_orders-map, sum_orders-rearranged}
 use Rattle.exact_algebra.specs.Permuted.{Rearranged-permuted}
-use Rattle.exact_algebra.specs.Orders.Rearranged.{same, keep, swap, then}
 use Rattle.exact_algebra.specs.TensorContraction.{places_cmp, places_equal}
 use Rattle.beta_poly.specs.Polynomial.{Polynomial, poly_ring, add_poly}
 use Rattle.sparse_tensor.specs.Tensor.{Entries, HasRank, value_in}
@@ -21,15 +20,9 @@ use Rattle.sparse_tensor.proofs.Projected.{each_rank, legs_inside, ranks_append,
 
 -- ---- orders
 
-length_moved : {xs ys : List ℕ} → Rearranged xs ys → length ys ≡ length xs
-length_moved same = refl
-length_moved (keep r) = ap suc (length_moved r)
-length_moved swap = refl
-length_moved (then r s) = length_moved s ∙ length_moved r
-
 each_length : (xs : List ℕ) (ws : List (List ℕ)) → AllByRecursion (Rearranged xs) ws → AllByRecursion (λ w. length w ≡ length xs) ws
 each_length xs [] h = tt
-each_length xs (w ∷ ws) h = (length_moved h.0, each_length xs ws h.1)
+each_length xs (w ∷ ws) h = (length-rearranged h.0, each_length xs ws h.1)
 
 pub orders_long : (xs : List ℕ) → AllByRecursion (λ w. length w ≡ length xs) (orders xs)
 orders_long xs = each_length xs (orders xs) (orders-rearranged xs)
@@ -42,13 +35,6 @@ to_all P (w ∷ ws) h (suc i) d l = to_all P ws h.1 i d (omega arith)
 -- each order of legs has as many
 pub lengths_of_orders : (xs : List ℕ) → All (λ w. length w ≡ length xs) (orders xs)
 lengths_of_orders xs = to_all (λ w. length w ≡ length xs) (orders xs) (orders_long xs)
-
--- a mapped list in another order
-pub Rearranged-map : {A B : Type 0} (g : A → B) {xs ys : List A} → Rearranged xs ys → Rearranged (map g xs) (map g ys)
-Rearranged-map g same = same
-Rearranged-map g (keep r) = keep (Rearranged-map g r)
-Rearranged-map g swap = swap
-Rearranged-map g (then r s) = then (Rearranged-map g r) (Rearranged-map g s)
 
 -- ---- ranks
 
@@ -120,7 +106,7 @@ module _ (n : ℕ) (legs : List ℕ) (h : AreLegs n legs) where
       let k = e.0 in
       let qs = places_at is.order k in
       let moved = Rearranged-map (λ leg. get_or k leg 0) (Rearranged-permuted legs is.order is.legs_are) in
-      let as_long : length qs ≡ length legs = length_moved moved ∙ long k in
+      let as_long : length qs ≡ length legs = length-rearranged moved ∙ long k in
       let other = put_back k legs qs in
       let at = λ (ps : List ℕ). where_equal R (places_cmp key (put_back k legs ps)) e.1 in
       ap (λ g. sum_orders R (places_at legs key) (λ ps. at_key (put_back key legs ps) g)) is.is

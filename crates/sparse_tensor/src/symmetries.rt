@@ -1,9 +1,5 @@
 //! Entries with the places at legs in all orders.
-<<<<<<< HEAD
-ghost use Rattle.std.specs.Prelude.{◌≡◌, ◌<◌, ◌++◌, [], length, map, IfOk, OnOk};
-=======
 ghost use Rattle.std.specs.Prelude.{◌≡◌, ◌<◌, ◌++◌, [], length, map, IfOk, OnOk, IsPermutation};
->>>>>>> 921ec95dc32997c7937da0c54f0162cea95e93af
 ghost use Rattle.std.specs.List.{All, flat_map};
 ghost use Rattle.exact_algebra.specs.Orders.{inserts, orders};
 ghost use Rattle.sparse_tensor.specs.Operations.{places_at, put_back};

@@ -1,5 +1,5 @@
 use Rattle.std.specs.Vec.Iter.{into_iter_items, into_iter_len}
-use Rattle.std.proofs.Common.{◌≡◌, length, sym, ◌∙◌, rules}
+use Rattle.std.proofs.Common.{◌≡◌, sym, rules}
 use Rattle.beta_poly.proofs.Neighbours.{counted_none, counted_step}
 use Rattle.beta_poly.proofs.Totals.{total_of, collect_none, collect_next, collect_end}
 use Rattle.beta_poly.proofs.polynomial.collected.Goals as goal

@@ -1,4 +1,3 @@
-use Rattle.std.specs.Prelude.{[], ◌∷◌}
 use Rattle.std.specs.Vec.Iter.{into_iter_items, into_iter_len}
 use Rattle.std.proofs.Common.{◌≡◌, ◌++◌, length, sym, subst, ap, ◌∙◌, rules}
 use Rattle.frac128.specs.Rational.{ℚ}

@@ -1,4 +1,4 @@
-use Rattle.std.proofs.Common.{◌≡◌, ◌++◌, OnOk, sym, ap, ◌∙◌, append-nil, subst, true≢false}
+use Rattle.std.proofs.Common.{◌++◌, sym, ap, ◌∙◌, append-nil, true≢false}
 use Rattle.beta_poly.proofs.Views.{kept-zero, kept-other}
 use Rattle.beta_poly.proofs.products.push_term.Goals as goal
 

@@ -1,4 +1,4 @@
-use Rattle.std.proofs.Common.{◌≡◌, ap, ◌∙◌}
+use Rattle.std.proofs.Common.{◌∙◌}
 use Rattle.exact_algebra.specs.Maps.{of-permuted}
 use Rattle.frac128.specs.RationalLaws.{ring_ℚ}
 use Rattle.beta_poly.specs.Monomial.{monomial_keys}
