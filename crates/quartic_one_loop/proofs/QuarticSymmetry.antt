@@ -1,5 +1,5 @@
 -- The scalar tensor of a model is symmetric in its legs.
-use Rattle.std.specs.Prelude.{◌≡◌, ℕ, suc, Bool, true, false, List, [], ◌∷◌, map, length}
+use Rattle.std.specs.Prelude.{◌≡◌, ℕ, Bool, true, false, List, [], ◌∷◌, map, length}
 use Rattle.std.proofs.Common.{cond, refl, sym, ap, ap₂, ◌∙◌, arith}
 use Rattle.std.proofs.lemmas.List.{length-map}
 use mathlib.Core.Path.{fun_ext}
