@@ -20,6 +20,13 @@ def group(text, start):
     return len(text)
 
 
+def end_of(text, at):
+    """The end of what stands at a place: a group in braces, a command or a letter."""
+    if text.startswith("{", at):
+        return group(text, at)
+    return re.compile(r"\\[A-Za-z]+|(?s:\\?.)").match(text, at).end()
+
+
 def width(text):
     """About how wide a formula is, in points: a letter has 6, a sign between spaces 14, scripts 0.7 of their size."""
     total, at = 0.0, 0
@@ -29,10 +36,10 @@ def width(text):
             end = group(text, middle)
             total += 3 + 0.7 * max(width(text[at + 5 : middle]), width(text[middle:end]))
         elif text[at] in "_^":
-            end = group(text, at + 1) if text[at + 1 : at + 2] == "{" else at + 2
+            end = end_of(text, at + 1)
             total += 0.75 * width(text[at + 1 : end])
         elif text[at] == "\\":
-            end = at + len(re.match(r"\\[A-Za-z]+|\\.", text[at:])[0])
+            end = end_of(text, at)
             total += 0 if text[at:end] == "\\overline" else 7
         else:
             end = at + 1
@@ -72,7 +79,7 @@ def main():
         lines = file.read().splitlines()
     betas = [line.removesuffix(" \\\\") for line in lines if not line.startswith("%")]
     print(*[line for line in lines if line.startswith("%")], HEAD, sep="\n")
-    print(" \\\\\n".join("\\\\\n".join(f"{row} " for row in rows_of(line)).rstrip() for line in betas))
+    print(" \\\\\n".join(row for line in betas for row in rows_of(line)))
     print(END)
 
 
