@@ -80,7 +80,7 @@ def python_names(symbols):
 
 
 def mathematica_names(symbols):
-    taken = {"betaFunction", "rescaled"}
+    taken = {"betaFunction"}
     heads = {}
     for name, _ in symbols:
         if name not in heads:
