@@ -70,7 +70,7 @@ def couplings_of(model):
     fermions = {it["name"] for it in model.get("fermion", [])}
     fields = fermions | {it["name"] for it in model.get("scalar", [])}
     for term in model.get("term", []):
-        bare = re.sub(r"\(.*?\)|\[.*?\]", " ", re.split(r"\b[+-]|[+-] ", term["text"].lstrip("- "))[0])
+        bare = re.sub(r"\(.*?\)|\[.*?\]", " ", re.split("[+-]", term["text"].lstrip("- "))[0])
         legs = [word for word in re.findall(r"[A-Za-z]\w*", bare) if word in fields]
         wanted = 3 if set(legs) & fermions else 4
         is_complex, is_symmetric = term.get("value") == "complex", term.get("shape") == "symmetric"
