@@ -35,7 +35,7 @@ def package_of(path):
 def check_names():
     """Names that Python or Mathematica has itself are renamed, and no two become one."""
     rows = ["kind,target,loops,at,num,den,monomial"]
-    symbols = {"lambda": 2.0, "I": 3.0, "E_1": 5.0, '"Y[1,2]"': 7.0, "Y_1_2": 11.0, "pi": 13.0}
+    symbols = {"lambda": 2.0, "I": 3.0, "E_1": 5.0, '"Y[1,2]"': 7 + 1j, "Y_1_2": 11.0, "pi": 13.0}
     rows += [f"beta,{symbol},1,,1,2,{symbol}" for symbol in symbols]
     rows += ['beta,"Y[1,2]",1,,-1,1,"I*conj(Y[1,2])^2"']
     with tempfile.TemporaryDirectory() as folder:
@@ -51,7 +51,7 @@ def check_names():
             heads = re.findall(r"^betaFunction\[(.*), \d\] = (.*);$", file.read(), re.M)
     values = {symbol.strip('"'): value for symbol, value in symbols.items()}
     wanted = {symbol: value / 2 for symbol, value in values.items()}
-    wanted["Y[1,2]"] -= 3.0 * 7.0**2
+    wanted["Y[1,2]"] -= 3 * (7 - 1j) ** 2
     found = module.betas(values)
     assert all(abs(found[symbol] / module.FACTOR - value) < 1e-9 for symbol, value in wanted.items()), found
     assert [head for head, _ in heads] == ["lambda", "myI", "myE$1", "myY[1, 2]", "myY$1$2", "pi"], heads
