@@ -1,0 +1,9 @@
+pub mod Blocks
+pub mod Directions
+pub mod Entries
+pub mod FermionSides
+pub mod Given
+pub mod KeyZeros
+pub mod SameUses
+pub mod Sorting
+pub mod TextZeros
