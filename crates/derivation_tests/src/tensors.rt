@@ -349,7 +349,6 @@ direction 2 2 f0[1] f1[1] s0[1]
 1 4 2 0 = -1/1
 ";
 
-
 /// Checks the tensors of a file.
 pub fn check(rt: &impl Abort, alloc: Global, file: &str, wanted: &str) -> Result<(), AllocError> {
     let found = tensors_of(alloc, file.as_bytes())?;
