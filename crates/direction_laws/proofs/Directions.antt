@@ -1,7 +1,7 @@
 -- A direction is 0 at every key that isn't a component of its block on its side.
 use Rattle.std.proofs.Common.{◌≡◌, ℕ, Bool, true, false, List, [], ◌∷◌, map, Some, refl, sym, subst, ap, ap₂, ◌∙◌, inl, inr}
 use Rattle.std.specs.Prelude.{◌==◌, if◌then◌else◌, slice_get}
-use Rattle.exact_algebra.specs.Sums.{sum, sum-same_on, sum-zero}
+use Rattle.exact_algebra.specs.Sums.{sum-same_on, sum-zero}
 use Rattle.frac128.specs.Rational.{ℚ, zero_ℚ, ◌+ℚ◌}
 use Rattle.frac128.specs.RationalLaws.{ring_ℚ}
 use Rattle.model_core.specs.declared.content.FieldToken.{FieldToken}

@@ -5,7 +5,7 @@ use Rattle.std.specs.List.{AllByRecursion, flat_map, list_all, list_any}
 use Rattle.std.specs.Str.{bytes_eq}
 use Rattle.std.proofs.lemmas.Slice.Eq.{bytes_eq-Decides}
 use Rattle.exact_algebra.specs.Orders.{Rearranged, same, keep, then as thereafter}
-use Rattle.exact_algebra.specs.Sums.{sum, sum-same_on, sum-zero}
+use Rattle.exact_algebra.specs.Sums.{sum-same_on, sum-zero}
 use Rattle.frac128.specs.Rational.{zero_ℚ}
 use Rattle.frac128.specs.RationalLaws.{ring_ℚ}
 use Rattle.model_core.specs.declared.component_lists.FieldComponent.{FieldComponent}

@@ -7,7 +7,7 @@ use Rattle.std.proofs.lemmas.List.{append-nil}
 use Rattle.std.proofs.lemmas.Slice.Eq.{bytes_eq-Decides}
 use Rattle.exact_algebra.specs.Orders.{Rearranged, swap, orders, orders-rearranged, sum_orders-map, sum_orders-two}
 use Rattle.exact_algebra.specs.Ring.{zero_mul}
-use Rattle.exact_algebra.specs.Sums.{sum, sum-same, sum-same_on, sum-zero}
+use Rattle.exact_algebra.specs.Sums.{sum-same, sum-same_on, sum-zero}
 use Rattle.frac128.specs.Rational.{ℚ, zero_ℚ, ◌+ℚ◌, ◌*ℚ◌}
 use Rattle.frac128.specs.RationalLaws.{ring_ℚ}
 use Rattle.model_core.specs.declared.component_lists.FieldComponent.{FieldComponent}
